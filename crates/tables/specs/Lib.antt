@@ -1,0 +1,6 @@
+pub mod Choice
+pub mod Bytes
+pub mod Refusal
+pub mod Kind
+pub mod Place
+pub mod Bit

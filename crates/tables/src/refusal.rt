@@ -1,0 +1,46 @@
+// Why a file or a call is turned back (01: "Why a file is turned back").
+ghost use mathlib.Core.Path.{_≡_};
+ghost use Rattle.tables.specs.Refusal.{number};
+
+pub enum Reason {
+    TooLong,
+    WrongForm,
+    WrongFormat,
+    CountOutOfRange,
+    BadReference,
+    BadLoop,
+    SignalsDiffer,
+    WrongEnding,
+    SizeDiffers,
+    ShortBuffer,
+}
+
+// A refusal: its reason, the file (1 rule, 2 take, 3 sheet, 0 none) and the line from 1 (0 none).
+pub struct Refusal {
+    pub reason: Reason,
+    pub file: u8,
+    pub line: usize,
+}
+
+pub enum Outcome {
+    Accepted,
+    Refused(Refusal),
+}
+
+// The number of a reason in 01's list.
+pub fn reason_number(reason: Reason) -> u8
+    ensures { λ r. ⌜ r ≡ number reason ⌝ }
+{
+    match reason {
+        Reason::TooLong => 1,
+        Reason::WrongForm => 2,
+        Reason::WrongFormat => 3,
+        Reason::CountOutOfRange => 4,
+        Reason::BadReference => 5,
+        Reason::BadLoop => 6,
+        Reason::SignalsDiffer => 7,
+        Reason::WrongEnding => 8,
+        Reason::SizeDiffers => 9,
+        Reason::ShortBuffer => 10,
+    }
+}

@@ -1,0 +1,118 @@
+-- Digits 0 and 1: as a loop checks them, and their written form. Assumes nothing.
+use mathlib.Core.Path.{_≡_, refl, sym, ap, ap₂, _∙_}
+use mathlib.Core.Bool.{Bool, true, false}
+use mathlib.Core.List.{List, [], _∷_, map}
+use Prim.Native.Nat.{ℕ, suc, _+_, _-_, _≤_, _<_}
+use native.Mathlib.Numerals.{add-one}
+use native.Mathlib.Omega.{arith}
+use native.Mathlib.Decide.{decLt}
+use lib.Dec.{ltb, eqb}
+use lib.ListN.{length, getD, drop, length-map, length-take, length-drop}
+use lib.Seq.{drop-cons, drop-length}
+use borrow.Author.Tests.{lt-ltb, le-ltb, eq-eqb, ne-eqb, eqb-true, eqb-false}
+use Rattle.tables.specs.Choice.{pick}
+use Rattle.tables.specs.declared.refusal.Reason.the-variants.{WrongForm}
+use Rattle.text.specs.Search.{part}
+use Rattle.text.specs.Digits.{areDigits, digitsIn, digitsForm}
+use Rattle.text.specs.Written.{digitsText}
+use Rattle.text.specs.Result.{Parsed}
+use Rattle.text.specs.Result.Parsed.{good, bad}
+use Rattle.text.proofs.Searching.{clash, each-pick}
+use Rattle.text.proofs.Lines.{Free}
+
+-- the first i bytes are digits
+pub record DigitsTo (s : List ℕ) (i : ℕ) : Type 0 where
+  pub within : i ≤ length s
+  pub goes : areDigits s ≡ areDigits (drop i s)
+
+pub digits-start : (s : List ℕ) → DigitsTo s 0
+digits-start s = record { within = omega arith; goes = refl }
+
+module _ {s : List ℕ} {i : ℕ} (inv : DigitsTo s i) where
+  module _ (h : i < length s) where
+    pub digit-below : getD s i 0 < 48 → false ≡ areDigits s
+    unfolding areDigits
+    digit-below l = rw (inv .goes, drop-cons s i 0 h, lt-ltb (getD s i 0) 48 l)
+
+    pub digit-above : 48 ≤ getD s i 0 → 49 < getD s i 0 → false ≡ areDigits s
+    unfolding areDigits
+    digit-above l u = rw (inv .goes, drop-cons s i 0 h, le-ltb (getD s i 0) 48 l, lt-ltb 49 (getD s i 0) u)
+
+    pub digit-more : 48 ≤ getD s i 0 → getD s i 0 ≤ 49 → DigitsTo s (i + 1)
+    unfolding areDigits
+    digit-more l u = record { within = omega arith; goes = rw (inv .goes, drop-cons s i 0 h, le-ltb (getD s i 0) 48 l, le-ltb 49 (getD s i 0) u, add-one) }
+
+  pub digits-end : length s ≤ i → true ≡ areDigits s
+  unfolding areDigits
+  digits-end l = let e : i ≡ length s = omega arith in rw (inv .goes, e, drop-length)
+
+-- a part has the length that its ends say
+pub part-length : {A : Type 0} (a e : ℕ) (s : List A) → e ≤ length s → length (part a e s) ≡ e - a
+part-length a e s h = simp (length-take, length-drop) (omega arith)
+
+-- a value by its length and its bytes
+module _ (n : ℕ) (v : List ℕ) where
+  pub form-length : (length v ≡ n → ⊥) → digitsForm n v ≡ bad WrongForm
+  unfolding digitsForm
+  form-length d = rw (ne-eqb (length v) n d)
+
+  module _ (e : length v ≡ n) where
+    pub form-other : areDigits v ≡ false → digitsForm n v ≡ bad WrongForm
+    unfolding digitsForm
+    form-other d = rw (eq-eqb (length v) n e, d)
+
+    pub form-digits : areDigits v ≡ true → digitsForm n v ≡ good (digitsIn v)
+    unfolding digitsForm
+    form-digits d = rw (eq-eqb (length v) n e, d)
+
+-- ---- the written form
+digit-written : (b : Bool) → (48 ≤ pick b 49 48) × (pick b 49 48 ≤ 49) × (eqb (pick b 49 48) 49 ≡ b)
+digit-written true = (omega arith, omega arith, refl)
+digit-written false = (omega arith, omega arith, refl)
+
+are-written : (ds : List Bool) → areDigits (digitsText ds) ≡ true
+unfolding areDigits
+are-written [] = refl
+are-written (d ∷ ds) = let w = digit-written d in rw (le-ltb (pick d 49 48) 48 (w .0), le-ltb 49 (pick d 49 48) (w .1)) (are-written ds)
+
+in-written : (ds : List Bool) → digitsIn (digitsText ds) ≡ ds
+in-written [] = refl
+in-written (d ∷ ds) = ap₂ _∷_ (digit-written d .2) (in-written ds)
+
+pub digits-written : (n : ℕ) (ds : List Bool) → length ds ≡ n → digitsForm n (digitsText ds) ≡ good ds
+unfolding digitsForm
+digits-written n ds e = rw (eq-eqb (length (digitsText ds)) n (length-map ds (λ b. pick b 49 48) ∙ e), are-written ds, in-written ds)
+
+pub digits-free : (ds : List Bool) → Free 10 (digitsText ds)
+digits-free [] = tt
+digits-free (d ∷ ds) = (λ q. let w = digit-written d in omega (arith, w .0), digits-free ds)
+
+-- and back
+text-of-digits : (v : List ℕ) → areDigits v ≡ true → v ≡ digitsText (digitsIn v)
+unfolding areDigits
+text-of-digits [] e = refl
+text-of-digits (d ∷ ds) e = by (decLt d 48) (decLt 49 d) (text-of-digits ds) e
+  where
+    digit : 48 ≤ d → d ≤ 49 → (b : Bool) → eqb d 49 ≡ b → d ≡ pick b 49 48
+    digit l u true q = eqb-true d 49 q
+    digit l u false q = let n = eqb-false d 49 q in omega arith
+
+    by : Dec (d < 48) → Dec (49 < d) → (areDigits ds ≡ true → ds ≡ digitsText (digitsIn ds)) → pick (ltb d 48) false (pick (ltb 49 d) false (areDigits ds)) ≡ true
+        → d ∷ ds ≡ digitsText (digitsIn (d ∷ ds))
+    by (yes l) u ih q = clash (cc (rw (lt-ltb d 48 l) at q))
+    by (no l) (yes u) ih q = let k : 48 ≤ d = omega arith in clash (cc (rw (le-ltb d 48 k, lt-ltb 49 d u) at q))
+    by (no l) (no u) ih q =
+        let k : 48 ≤ d = omega arith in
+        let m : d ≤ 49 = omega arith in
+        ap₂ _∷_ (digit k m (eqb d 49) refl) (ih (rw (le-ltb d 48 k, le-ltb 49 d m) at q))
+
+pub digits-read : (n : ℕ) (v : List ℕ) (ds : List Bool) → digitsForm n v ≡ good ds → (v ≡ digitsText ds) × (length ds ≡ n)
+unfolding digitsForm
+digits-read n v ds =
+    each-pick P (eqb (length v) n) (λ e. each-pick P (areDigits v) (λ a q. whole e a (cc)) (λ _ q. clash (cc))) (λ _ q. clash (cc))
+  where
+    P : Parsed (List Bool) → Type 0
+    P p = p ≡ good ds → (v ≡ digitsText ds) × (length ds ≡ n)
+
+    whole : eqb (length v) n ≡ true → areDigits v ≡ true → digitsIn v ≡ ds → (v ≡ digitsText ds) × (length ds ≡ n)
+    whole e a q = (text-of-digits v a ∙ ap digitsText q, sym (ap length q) ∙ (length-map v (λ d. eqb d 49) ∙ eqb-true (length v) n e))

@@ -1,0 +1,6 @@
+pub mod Searching
+pub mod Numbers
+pub mod Lines
+pub mod Bodies
+pub mod DigitLines
+pub mod Counts

@@ -1,0 +1,48 @@
+// Numbers as the files write them.
+ghost use mathlib.Core.Path.{_≡_};
+ghost use Rattle.text.specs.Number.{digitsOf, numberOf};
+
+// A number as the files write it, or that the bytes are none.
+pub enum Number {
+    Is(usize),
+    Not,
+}
+
+// The number that up to five decimal digits stand for.
+fn read_digits(s: &[u8]) -> Number
+    ensures { λ r. ⌜ r ≡ digitsOf (now (s .entry)) ⌝ }
+{
+    if 5 < s.len() {
+        return Number::Not;
+    }
+    let mut value: usize = 0;
+    let mut i = 0;
+    while i < s.len() {
+        let d = s[i];
+        if d < b'0' {
+            return Number::Not;
+        }
+        if b'9' < d {
+            return Number::Not;
+        }
+        value = value * 10 + (d as usize - 48);
+        i += 1;
+    }
+    Number::Is(value)
+}
+
+// A number: one to five digits, without leading zeros.
+pub fn read_number(s: &[u8]) -> Number
+    ensures { λ r. ⌜ r ≡ numberOf (now (s .entry)) ⌝ }
+{
+    if s.len() == 0 {
+        return Number::Not;
+    }
+    if s.len() == 1 {
+        return read_digits(s);
+    }
+    if s[0] == b'0' {
+        return Number::Not;
+    }
+    read_digits(s)
+}
