@@ -5,10 +5,14 @@ use Prim.Native.Nat.{ℕ, zero, suc, _<_}
 use native.Mathlib.Omega.{arith}
 use native.Mathlib.Decide.{decLt}
 use lib.Dec.{T, eqb, eqb→eq, leb, leb→le}
-use Rattle.tables.specs.Kind.{kinds, kindAt, placeOf, withNumbers}
+use Rattle.tables.specs.Kind.{kinds, kindAt, placeOf, withNumbers, numbersIn, firstNumber, secondNumber, constantPlace, signalPlace, unaryPlace, binaryPlace}
+use Rattle.tables.specs.declared.row.ConstantKind.{ConstantKind}
 use Rattle.tables.specs.declared.row.ConstantKind.the-variants.{True, False}
+use Rattle.tables.specs.declared.row.SignalKind.{SignalKind}
 use Rattle.tables.specs.declared.row.SignalKind.the-variants.{Sig, Nsig}
+use Rattle.tables.specs.declared.row.UnaryKind.{UnaryKind}
 use Rattle.tables.specs.declared.row.UnaryKind.the-variants.{Not, Next, Always, Ever}
+use Rattle.tables.specs.declared.row.BinaryKind.{BinaryKind}
 use Rattle.tables.specs.declared.row.BinaryKind.the-variants.{And, Or, Weak, Until, Release, Srelease}
 use Rattle.tables.specs.declared.row.Row.{Row}
 use Rattle.tables.specs.declared.row.Row.the-variants.{Constant, Signal, Unary, Binary}
@@ -50,19 +54,59 @@ unfolding kindAt kinds
 place-of-kind k h = eqb→eq _ _ (below (λ k. eqb (placeOf (kindAt k .row)) k) 14 tt k h)
 
 -- and the row at a row's place is of its kind
-pub kind-of-row : (r : Row) → kindAt (placeOf r) .row ≡ withNumbers r 0 0
+constant-row : (k : ConstantKind) → (constantPlace k < 14) × (kindAt (constantPlace k) .row ≡ Constant k)
 unfolding kindAt kinds
-kind-of-row (Constant True) = refl
-kind-of-row (Constant False) = refl
-kind-of-row (Signal Sig s) = refl
-kind-of-row (Signal Nsig s) = refl
-kind-of-row (Unary Not a) = refl
-kind-of-row (Unary Next a) = refl
-kind-of-row (Unary Always a) = refl
-kind-of-row (Unary Ever a) = refl
-kind-of-row (Binary And a b) = refl
-kind-of-row (Binary Or a b) = refl
-kind-of-row (Binary Weak a b) = refl
-kind-of-row (Binary Until a b) = refl
-kind-of-row (Binary Release a b) = refl
-kind-of-row (Binary Srelease a b) = refl
+constant-row True = (omega arith, refl)
+constant-row False = (omega arith, refl)
+
+signal-row : (k : SignalKind) → (signalPlace k < 14) × (kindAt (signalPlace k) .row ≡ Signal k 0)
+unfolding kindAt kinds
+signal-row Sig = (omega arith, refl)
+signal-row Nsig = (omega arith, refl)
+
+unary-row : (k : UnaryKind) → (unaryPlace k < 14) × (kindAt (unaryPlace k) .row ≡ Unary k 0)
+unfolding kindAt kinds
+unary-row Not = (omega arith, refl)
+unary-row Next = (omega arith, refl)
+unary-row Always = (omega arith, refl)
+unary-row Ever = (omega arith, refl)
+
+binary-row : (k : BinaryKind) → (binaryPlace k < 14) × (kindAt (binaryPlace k) .row ≡ Binary k 0 0)
+unfolding kindAt kinds
+binary-row And = (omega arith, refl)
+binary-row Or = (omega arith, refl)
+binary-row Weak = (omega arith, refl)
+binary-row Until = (omega arith, refl)
+binary-row Release = (omega arith, refl)
+binary-row Srelease = (omega arith, refl)
+
+pub kind-of-row : (r : Row) → (placeOf r < 14) × (kindAt (placeOf r) .row ≡ withNumbers r 0 0)
+kind-of-row (Constant k) = constant-row k
+kind-of-row (Signal k s) = signal-row k
+kind-of-row (Unary k a) = unary-row k
+kind-of-row (Binary k a b) = binary-row k
+
+-- numbers put in place of others
+pub numbers-again : (r : Row) (a b x y : ℕ) → withNumbers (withNumbers r x y) a b ≡ withNumbers r a b
+numbers-again (Constant k) a b x y = refl
+numbers-again (Signal k s) a b x y = refl
+numbers-again (Unary k s) a b x y = refl
+numbers-again (Binary k s t) a b x y = refl
+
+pub numbers-own : (r : Row) → withNumbers r (firstNumber r) (secondNumber r) ≡ r
+numbers-own (Constant k) = refl
+numbers-own (Signal k s) = refl
+numbers-own (Unary k a) = refl
+numbers-own (Binary k a b) = refl
+
+pub numbers-count : (r : Row) (a b : ℕ) → numbersIn (withNumbers r a b) ≡ numbersIn r
+numbers-count (Constant k) a b = refl
+numbers-count (Signal k s) a b = refl
+numbers-count (Unary k s) a b = refl
+numbers-count (Binary k s t) a b = refl
+
+pub numbers-place : (r : Row) (a b : ℕ) → placeOf (withNumbers r a b) ≡ placeOf r
+numbers-place (Constant k) a b = refl
+numbers-place (Signal k s) a b = refl
+numbers-place (Unary k s) a b = refl
+numbers-place (Binary k s t) a b = refl

@@ -92,3 +92,16 @@ numbersIn (Constant c) = 0
 numbersIn (Signal c s) = 1
 numbersIn (Unary c a) = 1
 numbersIn (Binary c a b) = 2
+
+-- the numbers themselves; 0 where there is none
+abbrev pub firstNumber : Row → ℕ
+firstNumber (Constant c) = 0
+firstNumber (Signal c s) = s
+firstNumber (Unary c a) = a
+firstNumber (Binary c a b) = a
+
+abbrev pub secondNumber : Row → ℕ
+secondNumber (Constant c) = 0
+secondNumber (Signal c s) = 0
+secondNumber (Unary c a) = 0
+secondNumber (Binary c a b) = b

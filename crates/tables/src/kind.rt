@@ -1,7 +1,7 @@
 // The kinds of rows, once, as a table (01: "The words and their partners stand once as a table").
 ghost use mathlib.Core.Path.{_≡_};
 ghost use Prim.Native.Nat.{_<_};
-ghost use Rattle.tables.specs.Kind.{kindAt, numbersIn, withNumbers};
+ghost use Rattle.tables.specs.Kind.{firstNumber, kindAt, numbersIn, secondNumber, withNumbers};
 use crate::row::BinaryKind;
 use crate::row::ConstantKind;
 use crate::row::Row;
@@ -135,5 +135,28 @@ pub fn with_numbers(row: Row, a: u8, b: u8) -> Row
         Row::Signal(k, _) => Row::Signal(k, a),
         Row::Unary(k, _) => Row::Unary(k, a),
         Row::Binary(k, _, _) => Row::Binary(k, a, b),
+    }
+}
+
+// The first number behind a row's word, and the second; 0 where there is none.
+pub fn first_number(row: Row) -> u8
+    ensures { λ r. ⌜ r ≡ firstNumber row ⌝ }
+{
+    match row {
+        Row::Constant(_) => 0,
+        Row::Signal(_, s) => s,
+        Row::Unary(_, a) => a,
+        Row::Binary(_, a, _) => a,
+    }
+}
+
+pub fn second_number(row: Row) -> u8
+    ensures { λ r. ⌜ r ≡ secondNumber row ⌝ }
+{
+    match row {
+        Row::Constant(_) => 0,
+        Row::Signal(_, _) => 0,
+        Row::Unary(_, _) => 0,
+        Row::Binary(_, _, b) => b,
     }
 }

@@ -1,0 +1,67 @@
+// A formula that is handed over as a table, checked as if written out as its file.
+ghost use mathlib.Core.Path.{_≡_};
+ghost use Prim.Native.Nat.{_≤_};
+ghost use Rattle.text.specs.Body.{bodyLines};
+ghost use Rattle.text.specs.Result.{outcomeOf};
+ghost use Rattle.text.specs.Written.{writtenBody};
+ghost use Rattle.rule_file.specs.Row.{rowValue};
+ghost use Rattle.rule_file.specs.Rule.{parseRule};
+ghost use Rattle.rule_file.specs.Written.{rowsOf, writtenRow, writtenRule};
+use tables::kind;
+use tables::refusal::Outcome;
+use tables::refusal::Reason;
+use tables::refusal::Refusal;
+use tables::row::Formula;
+
+fn refuse(reason: Reason, line: usize) -> Outcome
+    ensures { λ r. ⌜ r ≡ Outcome.Refused (record { reason = reason; file = 1; line = line }) ⌝ }
+{
+    Outcome::Refused(Refusal {
+        reason,
+        file: 1,
+        line,
+    })
+}
+
+// The used rows, from the first on.
+fn check_rows(formula: Formula) -> Outcome
+    requires { ⌜ formula .rows ≤ 64 ⌝ }
+    ensures { λ r. ⌜ r ≡ outcomeOf 1 (bodyLines 114 (rowValue (formula .signals)) (formula .rows) 1 4 (writtenBody 114 writtenRow 1 (rowsOf formula))) ⌝ }
+{
+    let signals = formula.signals as usize;
+    let rows = formula.rows as usize;
+    let places = formula.places;
+    let mut k = 0;
+    while k < rows {
+        let place = places[k];
+        let row = place.row;
+        let first = kind::first_number(row);
+        let second = kind::second_number(row);
+        if !crate::row::in_range(signals, k + 1, row, first as usize, second as usize) {
+            return refuse(Reason::BadReference, k + 4);
+        }
+        k += 1;
+    }
+    Outcome::Accepted
+}
+
+// A formula in memory: what reading it, written out as its file, would answer.
+pub fn check_formula(formula: Formula) -> Outcome
+    ensures { λ r. ⌜ r ≡ outcomeOf 1 (parseRule (writtenRule formula)) ⌝ }
+{
+    let signals = formula.signals;
+    let rows = formula.rows;
+    if signals < 1 {
+        return refuse(Reason::CountOutOfRange, 2);
+    }
+    if 32 < signals {
+        return refuse(Reason::CountOutOfRange, 2);
+    }
+    if rows < 1 {
+        return refuse(Reason::CountOutOfRange, 3);
+    }
+    if 64 < rows {
+        return refuse(Reason::CountOutOfRange, 3);
+    }
+    check_rows(formula)
+}
