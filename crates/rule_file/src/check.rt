@@ -1,10 +1,12 @@
 // A formula that is handed over as a table, checked as if written out as its file.
 ghost use mathlib.Core.Path.{_≡_};
 ghost use Prim.Native.Nat.{_≤_};
-ghost use Rattle.text.specs.Body.{bodyLines};
+ghost use mathlib.Core.Bool.{true};
+ghost use Rattle.text.specs.Body.{EachAt, bodyLines};
 ghost use Rattle.text.specs.Result.{outcomeOf};
 ghost use Rattle.text.specs.Written.{writtenBody};
-ghost use Rattle.rule_file.specs.Row.{rowValue};
+ghost use Rattle.rule_file.specs.Row.{inRange, rowValue};
+ghost use Rattle.rule_file.specs.Valid.{InRange};
 ghost use Rattle.rule_file.specs.Rule.{parseRule};
 ghost use Rattle.rule_file.specs.Written.{rowsOf, writtenRow, writtenRule};
 use tables::kind;
@@ -27,6 +29,7 @@ fn refuse(reason: Reason, line: usize) -> Outcome
 fn check_rows(formula: Formula) -> Outcome
     requires { ⌜ formula .rows ≤ 64 ⌝ }
     ensures { λ r. ⌜ r ≡ outcomeOf 1 (bodyLines 114 (rowValue (formula .signals)) (formula .rows) 1 4 (writtenBody 114 writtenRow 1 (rowsOf formula))) ⌝ }
+    ensures { λ r. ⌜ (r ≡ Outcome.Accepted → EachAt (λ k x. inRange (formula .signals) k x ≡ true) 1 (rowsOf formula)) ⌝ }
 {
     let signals = formula.signals as usize;
     let rows = formula.rows as usize;
@@ -45,9 +48,10 @@ fn check_rows(formula: Formula) -> Outcome
     Outcome::Accepted
 }
 
-// A formula in memory: what reading it, written out as its file, would answer.
+// A formula in memory: what reading it, written out as its file, would answer; and what an accepted one is known to be.
 pub fn check_formula(formula: Formula) -> Outcome
     ensures { λ r. ⌜ r ≡ outcomeOf 1 (parseRule (writtenRule formula)) ⌝ }
+    ensures { λ r. ⌜ (r ≡ Outcome.Accepted → InRange formula) ⌝ }
 {
     let signals = formula.signals;
     let rows = formula.rows;

@@ -1,10 +1,12 @@
 -- Laws of the table of kinds: each is one test, computed over the whole table. Assumes nothing.
-use mathlib.Core.Path.{_≡_, refl, subst}
+use mathlib.Core.Path.{_≡_, refl}
 use mathlib.Core.Bool.{Bool, true, false, _&&_}
-use Prim.Native.Nat.{ℕ, zero, suc, _<_}
+use Prim.Native.Nat.{ℕ, zero, suc, _≤_, _<_}
 use native.Mathlib.Omega.{arith}
 use native.Mathlib.Decide.{decLt}
-use lib.Dec.{T, eqb, eqb→eq, leb, leb→le}
+use lib.ListN.{length}
+use lib.Dec.{eqb, leb}
+use borrow.Author.Tests.{eqb-true, leb-true}
 use Rattle.tables.specs.Kind.{kinds, kindAt, placeOf, withNumbers, numbersIn, firstNumber, secondNumber, constantPlace, signalPlace, unaryPlace, binaryPlace}
 use Rattle.tables.specs.declared.row.ConstantKind.{ConstantKind}
 use Rattle.tables.specs.declared.row.ConstantKind.the-variants.{True, False}
@@ -22,36 +24,37 @@ abbrev pub allBelow : (ℕ → Bool) → ℕ → Bool
 allBelow f zero = true
 allBelow f (suc n) = f n && allBelow f n
 
-both-left : (a b : Bool) → T (a && b) → T a
-both-left true b t = tt
-both-left false b t = t
+both : (a b : Bool) → (a && b) ≡ true → (a ≡ true) × (b ≡ true)
+both true b e = (refl, e)
+both false b e = let z : _≡_ {A = ℕ} 0 1 = cc in absurd (omega arith)
 
-both-right : (a b : Bool) → T (a && b) → T b
-both-right true b t = t
-both-right false b t = absurd t
-
-pub below : (f : ℕ → Bool) (n : ℕ) → T (allBelow f n) → (k : ℕ) → k < n → T (f k)
+pub below : (f : ℕ → Bool) (n : ℕ) → allBelow f n ≡ true → (k : ℕ) → k < n → f k ≡ true
 below f zero t k h = absurd (omega arith)
-below f (suc n) t k h = by (decLt k n) (below f n (both-right (f n) (allBelow f n) t) k)
+below f (suc n) t k h = let w = both (f n) (allBelow f n) t in by (decLt k n) (w .0) (below f n (w .1) k)
   where
-    by : Dec (k < n) → (k < n → T (f k)) → T (f k)
-    by (yes l) r = r l
-    by (no g) r = let e : n ≡ k = omega arith in subst (λ (m : ℕ). T (f m)) e (both-left (f n) (allBelow f n) t)
+    by : Dec (k < n) → f n ≡ true → (k < n → f k ≡ true) → f k ≡ true
+    by (yes l) e r = r l
+    by (no g) e r = let q : n ≡ k = omega arith in rw q at e
 
 -- THE TABLE OF PARTNERS IS ITS OWN INVERSE
 pub partner-twice : (k : ℕ) → k < 14 → kindAt (kindAt k .partner) .partner ≡ k
 unfolding kindAt kinds
-partner-twice k h = eqb→eq _ _ (below (λ k. eqb (kindAt (kindAt k .partner) .partner) k) 14 tt k h)
+partner-twice k h = eqb-true _ _ (below (λ k. eqb (kindAt (kindAt k .partner) .partner) k) 14 refl k h)
 
 -- and stays within the table
 pub partner-below : (k : ℕ) → k < 14 → kindAt k .partner < 14
 unfolding kindAt kinds
-partner-below k h = leb→le _ _ (below (λ k. leb (suc (kindAt k .partner)) 14) 14 tt k h)
+partner-below k h = leb-true _ _ (below (λ k. leb (suc (kindAt k .partner)) 14) 14 refl k h)
+
+-- a word lies within its bytes
+pub word-fits : (k : ℕ) → k < 14 → kindAt k .length ≤ length (kindAt k .word)
+unfolding kindAt kinds
+word-fits k h = leb-true _ _ (below (λ k. leb (kindAt k .length) (length (kindAt k .word))) 14 refl k h)
 
 -- a place of the table is that of its own row
 pub place-of-kind : (k : ℕ) → k < 14 → placeOf (kindAt k .row) ≡ k
 unfolding kindAt kinds
-place-of-kind k h = eqb→eq _ _ (below (λ k. eqb (placeOf (kindAt k .row)) k) 14 tt k h)
+place-of-kind k h = eqb-true _ _ (below (λ k. eqb (placeOf (kindAt k .row)) k) 14 refl k h)
 
 -- and the row at a row's place is of its kind
 constant-row : (k : ConstantKind) → (constantPlace k < 14) × (kindAt (constantPlace k) .row ≡ Constant k)

@@ -1,12 +1,12 @@
 -- Laws of lists by their places. Assumes nothing.
 use mathlib.Core.Path.{_≡_, refl, sym, ap, _∙_}
-use mathlib.Core.List.{List, [], _∷_, _++_}
+use mathlib.Core.List.{List, [], _∷_, _++_, map}
 use Prim.Native.Nat.{ℕ, zero, suc, _+_, _≤_, _<_}
-use native.Mathlib.Nat.{add-zero, zero-add}
+use native.Mathlib.Nat.{add-zero, zero-add, lt-of-lt-of-le}
 use native.Mathlib.Omega.{arith}
 use native.Mathlib.Decide.{decLt, ℕ-discrete}
-use lib.ListN.{length, getD, set, replicate, length-set, length-append, List·getD-append, List·getD-eq-default}
-use lib.Seq.{ext-getD, getD-set-same, getD-set-other, getD-append-seam}
+use lib.ListN.{length, getD, take, set, replicate, length-set, length-append, length-map, List·getD-append, List·getD-eq-default, List·getD-map}
+use lib.Seq.{length-take-le, getD-take, ext-getD, getD-set-same, getD-set-other, getD-append-seam}
 use Rattle.tables.specs.Place.{tabulateFrom, tabulate, placed}
 
 pub length-tabulate : {A : Type 0} (n k : ℕ) (f : ℕ → A) → length (tabulateFrom n k f) ≡ n
@@ -73,3 +73,10 @@ placed-more {A} n g d xs x h =
     let e : getD (xs ++ (x ∷ [])) (length xs) d ≡ x = getD-append-seam xs x [] d in
     let s = set-tabulate n (λ i. g (getD xs i d)) (λ i. g (getD (xs ++ (x ∷ [])) i d)) (length xs) (g d) h (λ j m. ap g (snoc-other xs x d j m)) in
     rw e at s
+
+-- the places that are filled
+pub take-placed : {A B : Type 0} (n : ℕ) (g : A → B) (d : A) (xs : List A) → length xs ≤ n → take (length xs) (placed n g d xs) ≡ map g xs
+take-placed n g d xs h =
+    let l : length (take (length xs) (placed n g d xs)) ≡ length xs = length-take-le (length xs) (placed n g d xs) (rw length-tabulate h) in
+    ext-getD (g d) (take (length xs) (placed n g d xs)) (map g xs) (l ∙ sym (length-map xs g))
+    (λ i m. getD-take (length xs) (placed n g d xs) i (g d) (rw l at m) ∙ (getD-tabulate n (λ j. g (getD xs j d)) i (g d) (lt-of-lt-of-le (rw l at m) h) ∙ sym (List·getD-map g xs i d)))

@@ -15,7 +15,7 @@ use Rattle.text.specs.Line.{isNumbered, keyedLine}
 use Rattle.text.specs.Result.{Parsed, Next, Result, onParsed, onLine, mapResult, outcomeOf}
 use Rattle.text.specs.Result.Parsed.{good, bad}
 use Rattle.text.specs.Result.Result.{accepted, refused}
-use Rattle.text.specs.Body.{bodyLines}
+use Rattle.text.specs.Body.{bodyLines, EachAt}
 use Rattle.text.specs.Written.{decimal, writtenLine, writtenBody}
 use Rattle.text.proofs.Searching.{clash, each-pick}
 use Rattle.text.proofs.Lines.{Free, NoDigit, free-decimal, no-digit-below, no-digit-above, line-step, LineOf, line-read, numbered-written, numbered-read}
@@ -87,6 +87,17 @@ module _ {A : Type 0} {letter : ℕ} {form : ℕ → List ℕ → Parsed A} {tot
     body-surplus n = rw (inv .goes, none-left, ne-eqb (length rest) 0 n)
 
 -- ---- written bodies
+
+-- the lines of a body that was read
+pub record BodyOf {A : Type 0} (letter : ℕ) (text : A → List ℕ) (Ok : ℕ → A → Type 0) (left k : ℕ) (rest : List ℕ) (xs : List A) : Type 0 where
+  pub size : length xs ≡ left
+  pub whole : rest ≡ writtenBody letter text k xs
+  pub ok : EachAt Ok k xs
+
+empty : (s : List ℕ) → length s ≡ 0 → s ≡ []
+empty [] e = refl
+empty (x ∷ xs) e = absurd (omega arith)
+
 module _ {A : Type 0} (letter : ℕ) (big : 61 < letter) (form : ℕ → List ℕ → Parsed A) (text : A → List ℕ) where
   -- the first line of a written body
   pub body-line : (left k n : ℕ) (x : A) (xs : List A) → k < 100000 → Free 10 (text x)
@@ -99,33 +110,19 @@ module _ {A : Type 0} (letter : ℕ) (big : 61 < letter) (form : ℕ → List �
       (λ q. omega arith, free-decimal 61 k (no-digit-above 61 (omega arith)) h)
       f (isNumbered letter k) (form k) n (λ y after. mapResult (_∷_ y) (bodyLines letter form left (k + 1) (n + 1) after)) (numbered-written letter k h)
 
-  -- each element, at its number, is one that the form has
   module _ (Ok : ℕ → A → Type 0) where
-    abbrev pub AllOk : ℕ → List A → Type 0
-    AllOk k [] = Unit {0}
-    AllOk k (x ∷ xs) = Ok k x × AllOk (k + 1) xs
-
     -- WHAT IS WRITTEN IS READ
-    pub body-written : ((k : ℕ) (x : A) → Ok k x → (form k (text x) ≡ good x) × Free 10 (text x))
-        → (xs : List A) (k n : ℕ) → k + length xs ≤ 100000 → AllOk k xs → bodyLines letter form (length xs) k n (writtenBody letter text k xs) ≡ accepted xs
+    pub body-written : ((k : ℕ) (x : A) → k < 100000 → Ok k x → (form k (text x) ≡ good x) × Free 10 (text x))
+        → (xs : List A) (k n : ℕ) → k + length xs ≤ 100000 → EachAt Ok k xs → bodyLines letter form (length xs) k n (writtenBody letter text k xs) ≡ accepted xs
     body-written reads [] k n h ok = unfold bodyLines writtenBody in refl
     body-written reads (x ∷ xs) k n h ok =
-        let w = reads k x (ok .0) in
+        let w = reads k x (omega arith) (ok .0) in
         body-line (length xs) k n x xs (omega arith) (w .1) ∙ rw (w .0, body-written reads xs (k + 1) (n + 1) (omega arith) (ok .1))
-
-    empty : (s : List ℕ) → length s ≡ 0 → s ≡ []
-    empty [] e = refl
-    empty (x ∷ xs) e = absurd (omega arith)
-
-    pub record BodyOf (left k : ℕ) (rest : List ℕ) (xs : List A) : Type 0 where
-      pub size : length xs ≡ left
-      pub whole : rest ≡ writtenBody letter text k xs
-      pub ok : AllOk k xs
 
     module _ (only : (k : ℕ) (v : List ℕ) (x : A) → form k v ≡ good x → (v ≡ text x) × Ok k x) where
       extend : (left k : ℕ) (rest : List ℕ) (x : Next A) (xs : List A) → LineOf (isNumbered letter k) (form k) rest x
-          → (r : Result (List A)) → ((ys : List A) → r ≡ accepted ys → BodyOf left (k + 1) (drop (x .next) rest) ys)
-          → mapResult (_∷_ (x .value)) r ≡ accepted xs → BodyOf (suc left) k rest xs
+          → (r : Result (List A)) → ((ys : List A) → r ≡ accepted ys → BodyOf letter text Ok left (k + 1) (drop (x .next) rest) ys)
+          → mapResult (_∷_ (x .value)) r ≡ accepted xs → BodyOf letter text Ok (suc left) k rest xs
       unfolding writtenBody
       extend left k rest x xs l (accepted ys) ih e =
           let b = ih ys refl in
@@ -134,22 +131,22 @@ module _ {A : Type 0} (letter : ℕ) (big : 61 < letter) (form : ℕ → List �
           let n : l .key ≡ letter ∷ decimal k = numbered-read letter k (l .key) (l .named) in
           let w : rest ≡ writtenLine (letter ∷ decimal k) (text (x .value)) (writtenBody letter text (k + 1) ys) =
           l .whole ∙ rw (n, o .0, b .whole) in
-          subst (BodyOf (suc left) k rest) z (record { size = ap suc (b .size); whole = w; ok = (o .1, b .ok) })
+          subst (BodyOf letter text Ok (suc left) k rest) z (record { size = ap suc (b .size); whole = w; ok = (o .1, b .ok) })
       extend left k rest x xs l (refused r n) ih e = clash (cc)
 
       -- ONLY WHAT IS WRITTEN IS READ
-      pub body-read : (left k n : ℕ) (rest : List ℕ) (xs : List A) → bodyLines letter form left k n rest ≡ accepted xs → BodyOf left k rest xs
+      pub body-read : (left k n : ℕ) (rest : List ℕ) (xs : List A) → bodyLines letter form left k n rest ≡ accepted xs → BodyOf letter text Ok left k rest xs
       unfolding bodyLines writtenBody
       body-read zero k n rest xs =
-          each-pick (λ r. r ≡ accepted xs → BodyOf zero k rest xs) (eqb (length rest) 0)
-          (λ e q. let z : [] ≡ xs = cc in subst (BodyOf zero k rest) z (record { size = refl; whole = empty rest (eqb-true (length rest) 0 e); ok = tt }))
+          each-pick (λ r. r ≡ accepted xs → BodyOf letter text Ok zero k rest xs) (eqb (length rest) 0)
+          (λ e q. let z : [] ≡ xs = cc in subst (BodyOf letter text Ok zero k rest) z (record { size = refl; whole = empty rest (eqb-true (length rest) 0 e); ok = tt }))
           (λ _ q. clash (cc))
       body-read (suc left) k n rest xs = by (keyedLine (isNumbered letter k) (form k) rest) refl (λ x ys. body-read left (k + 1) (n + 1) (drop (x .next) rest) ys)
         where
           by : (p : Parsed (Next A)) → keyedLine (isNumbered letter k) (form k) rest ≡ p
-              → ((x : Next A) (ys : List A) → bodyLines letter form left (k + 1) (n + 1) (drop (x .next) rest) ≡ accepted ys → BodyOf left (k + 1) (drop (x .next) rest) ys)
+              → ((x : Next A) (ys : List A) → bodyLines letter form left (k + 1) (n + 1) (drop (x .next) rest) ≡ accepted ys → BodyOf letter text Ok left (k + 1) (drop (x .next) rest) ys)
               → onParsed p (λ e. refused e n) (λ x. mapResult (_∷_ (x .value)) (bodyLines letter form left (k + 1) (n + 1) (drop (x .next) rest))) ≡ accepted xs
-              → BodyOf (suc left) k rest xs
+              → BodyOf letter text Ok (suc left) k rest xs
           by (good x) e ih q =
               extend left k rest x xs (line-read (isNumbered letter k) (form k) rest x e)
               (bodyLines letter form left (k + 1) (n + 1) (drop (x .next) rest)) (ih x) q

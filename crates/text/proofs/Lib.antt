@@ -4,3 +4,5 @@ pub mod Lines
 pub mod Bodies
 pub mod DigitLines
 pub mod Counts
+pub mod Headers
+pub mod Elements

@@ -16,3 +16,8 @@ bodyLines letter form zero k n rest = pick (eqb (length rest) 0) (accepted []) (
 bodyLines letter form (suc left) k n rest =
     onLine n (keyedLine (isNumbered letter k) (form k)) rest λ x after.
     mapResult (_∷_ x) (bodyLines letter form left (k + 1) (n + 1) after)
+
+-- what holds of each element at its number, the first having number k
+abbrev pub EachAt : {A : Type 0} → (ℕ → A → Type 0) → ℕ → List A → Type 0
+EachAt Ok k [] = Unit {0}
+EachAt Ok k (x ∷ xs) = Ok k x × EachAt Ok (k + 1) xs

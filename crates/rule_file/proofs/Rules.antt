@@ -1,0 +1,187 @@
+-- Rule files and their written form: a formula that is written is read back, and only the written form of a formula is read.
+-- Assumes nothing.
+use mathlib.Core.Path.{_≡_, refl, sym, ap, _∙_, subst}
+use mathlib.Core.Bool.{Bool, true, false}
+use mathlib.Core.List.{List, [], _∷_, _++_, map}
+use Prim.Native.Nat.{ℕ, zero, suc, _+_, _*_, _≤_, _<_}
+use native.Mathlib.Omega.{arith}
+use lib.Dec.{ltb, leb}
+use lib.ListN.{length, getD, take, length-append, length-take, length-map}
+use borrow.Author.Tests.{le-ltb, leb-true}
+use Rattle.tables.specs.Choice.{pick}
+use Rattle.tables.specs.Bytes.{bytes}
+use Rattle.tables.specs.Kind.{kinds, kindAt, wordOf, placeOf}
+use Rattle.tables.specs.Place.{placed}
+use Rattle.tables.proofs.KindTable.{below, kind-of-row}
+use Rattle.tables.proofs.Places.{length-tabulate, take-placed}
+use Rattle.tables.specs.declared.refusal.Outcome.the-variants.{Accepted}
+use Rattle.tables.specs.declared.refusal.Reason.the-variants.{TooLong, WrongFormat, CountOutOfRange}
+use Rattle.tables.specs.declared.row.Row.{Row}
+use Rattle.tables.specs.declared.row.Row.the-variants.{Constant, Signal, Unary, Binary}
+use Rattle.tables.specs.declared.row.RowPlace.{RowPlace}
+use Rattle.tables.specs.declared.row.Formula.{Formula}
+use Rattle.text.specs.Line.{isKey, keyedLine}
+use Rattle.text.specs.Count.{countForm}
+use Rattle.text.specs.Body.{bodyLines, EachAt}
+use Rattle.text.specs.Result.{Result, onLine, mapResult, outcomeOf}
+use Rattle.text.specs.Result.Parsed.{good}
+use Rattle.text.specs.Result.Result.{accepted, refused}
+use Rattle.text.specs.Written.{decimal, writtenLine, writtenBody}
+use Rattle.text.proofs.Lines.{Free}
+use Rattle.text.proofs.Bodies.{BodyOf, body-written, body-read}
+use Rattle.text.proofs.Headers.{count-then, count-in, count-below, count-above, count-range, map-accepted, test-accepted, outcome-accepted}
+use Rattle.text.proofs.Elements.{decimal-short, count-short, body-short}
+use Rattle.rule_file.specs.Row.{inRange, rowValue}
+use Rattle.rule_file.specs.Rule.{inPlace, unused, formulaOf, parseRule}
+use Rattle.rule_file.specs.Written.{numbersText, writtenRow, rowsOf, writtenRule}
+use Rattle.rule_file.specs.Valid.{InRange, Valid}
+use Rattle.rule_file.proofs.WrittenRows.{Small, row-free, range-small, value-written, value-read}
+
+-- ---- a written rule is never too long
+
+word-short : (k : ℕ) → k < 14 → length (wordOf (kindAt k)) ≤ 8
+unfolding kindAt kinds
+word-short k h = leb-true _ _ (below (λ k. leb (length (wordOf (kindAt k))) 8) 14 refl k h)
+
+numbers-short : (r : Row) → length (numbersText r) ≤ 12
+numbers-short (Constant k) = omega arith
+numbers-short (Signal k s) = omega (arith, decimal-short s)
+numbers-short (Unary k a) = omega (arith, decimal-short a)
+numbers-short (Binary k a b) = rw length-append (omega (arith, decimal-short a, decimal-short b))
+
+row-short : (r : Row) → length (writtenRow r) ≤ 20
+row-short r = rw length-append (omega (arith, word-short (placeOf r) (kind-of-row r .0), numbers-short r))
+
+rule-short : (f : Formula) → length (rowsOf f) ≤ 64 → length (writtenRule f) ≤ 65536
+unfolding writtenRule
+rule-short f h =
+    let body : List ℕ = writtenBody 114 writtenRow 1 (rowsOf f) in
+    let a : length body ≤ length (rowsOf f) * 28 = body-short 114 writtenRow unused 20 (rowsOf f) 1 (λ i l. row-short (getD (rowsOf f) i unused)) in
+    let b = count-short (bytes "rows") (f .rows) body (omega arith) in
+    let c = count-short (bytes "signals") (f .signals) (writtenLine (bytes "rows") (decimal (f .rows)) body) (omega arith) in
+    let d = count-short (bytes "format") 1 (writtenLine (bytes "signals") (decimal (f .signals)) (writtenLine (bytes "rows") (decimal (f .rows)) body)) (omega arith) in
+    omega arith
+
+pub used-most : (f : Formula) → length (f .places) ≡ 64 → length (rowsOf f) ≤ 64
+used-most f e = rw (length-map, length-take) (omega arith)
+
+-- ---- reading a written rule, line by line: how it goes on behind each line
+abbrev behindRows : ℕ → ℕ → List ℕ → Result Formula
+behindRows signals rows body = mapResult (formulaOf signals rows) (bodyLines 114 (rowValue signals) rows 1 4 body)
+
+abbrev behindSignals : ℕ → List ℕ → Result Formula
+behindSignals signals rest = onLine 3 (keyedLine (isKey (bytes "rows")) (countForm 1 64 CountOutOfRange)) rest (behindRows signals)
+
+abbrev behindFormat : ℕ → List ℕ → Result Formula
+behindFormat one rest = onLine 2 (keyedLine (isKey (bytes "signals")) (countForm 1 32 CountOutOfRange)) rest behindSignals
+
+module _ (f : Formula) (short : length (rowsOf f) ≤ 64) (hs : f .signals < 100000) (hm : f .rows < 100000) where
+  body : List ℕ
+  body = writtenBody 114 writtenRow 1 (rowsOf f)
+
+  rows-line : List ℕ
+  rows-line = writtenLine (bytes "rows") (decimal (f .rows)) body
+
+  signals-line : List ℕ
+  signals-line = writtenLine (bytes "signals") (decimal (f .signals)) rows-line
+
+  after-format : parseRule (writtenRule f) ≡ behindFormat 1 signals-line
+  unfolding parseRule writtenRule signals-line rows-line body
+  after-format =
+      rw (le-ltb 65536 (length (writtenRule f)) (rule-short f short))
+      (count-in (bytes "format") 1 1 WrongFormat 1 behindFormat refl refl 1 signals-line (omega arith) (omega arith) (omega arith))
+
+  pub signals-few : f .signals < 1 → parseRule (writtenRule f) ≡ refused CountOutOfRange 2
+  unfolding signals-line
+  signals-few h = after-format ∙ count-below (bytes "signals") 1 32 CountOutOfRange 2 behindSignals refl refl (f .signals) rows-line h hs
+
+  module _ (s₁ : 1 ≤ f .signals) where
+    pub signals-many : 32 < f .signals → parseRule (writtenRule f) ≡ refused CountOutOfRange 2
+    unfolding signals-line
+    signals-many h = after-format ∙ count-above (bytes "signals") 1 32 CountOutOfRange 2 behindSignals refl refl (f .signals) rows-line s₁ h hs
+
+    module _ (s₂ : f .signals ≤ 32) where
+      after-signals : parseRule (writtenRule f) ≡ behindSignals (f .signals) rows-line
+      unfolding signals-line
+      after-signals = after-format ∙ count-in (bytes "signals") 1 32 CountOutOfRange 2 behindSignals refl refl (f .signals) rows-line s₁ s₂ hs
+
+      pub rows-few : f .rows < 1 → parseRule (writtenRule f) ≡ refused CountOutOfRange 3
+      unfolding rows-line
+      rows-few h = after-signals ∙ count-below (bytes "rows") 1 64 CountOutOfRange 3 (behindRows (f .signals)) refl refl (f .rows) body h hm
+
+      module _ (m₁ : 1 ≤ f .rows) where
+        pub rows-many : 64 < f .rows → parseRule (writtenRule f) ≡ refused CountOutOfRange 3
+        unfolding rows-line
+        rows-many h = after-signals ∙ count-above (bytes "rows") 1 64 CountOutOfRange 3 (behindRows (f .signals)) refl refl (f .rows) body m₁ h hm
+
+        pub after-rows : f .rows ≤ 64 → parseRule (writtenRule f) ≡ mapResult (formulaOf (f .signals) (f .rows)) (bodyLines 114 (rowValue (f .signals)) (f .rows) 1 4 (writtenBody 114 writtenRow 1 (rowsOf f)))
+        unfolding rows-line body
+        after-rows h = after-signals ∙ count-in (bytes "rows") 1 64 CountOutOfRange 3 (behindRows (f .signals)) refl refl (f .rows) body m₁ h hm
+
+-- ---- the theorems
+
+-- a row of a formula, in its place
+abbrev RowOk : ℕ → ℕ → Row → Type 0
+RowOk signals k r = inRange signals k r ≡ true
+
+row-reads : (signals : ℕ) → signals ≤ 32 → (k : ℕ) (r : Row) → k < 100000 → RowOk signals k r → (rowValue signals k (writtenRow r) ≡ good r) × Free 10 (writtenRow r)
+row-reads signals hs k r h e =
+    let s : Small r = range-small signals k hs (omega arith) r e in
+    (value-written signals k r s ∙ rw e, row-free r s)
+
+-- A FORMULA THAT IS WRITTEN IS READ BACK
+pub rule-written : (f : Formula) → Valid f → parseRule (writtenRule f) ≡ accepted f
+rule-written f v =
+    let i : InRange f = v .in-range in
+    let l : length (f .places) ≡ 64 = ap length (v .unused-true) ∙ length-tabulate 64 0 _ in
+    let n : length (rowsOf f) ≡ f .rows = length-map (take (f .rows) (f .places)) _ ∙ (length-take (f .rows) (f .places) ∙ rw l (omega (arith, i .most-rows))) in
+    let b : bodyLines 114 (rowValue (f .signals)) (length (rowsOf f)) 1 4 (writtenBody 114 writtenRow 1 (rowsOf f)) ≡ accepted (rowsOf f) =
+    body-written 114 (omega arith) (rowValue (f .signals)) writtenRow (RowOk (f .signals)) (row-reads (f .signals) (i .most-signals)) (rowsOf f) 1 4 (omega (arith, i .most-rows)) (i .rows-in-range) in
+    after-rows f (used-most f l) (omega (arith, i .most-signals)) (omega (arith, i .most-rows)) (i .some-signals) (i .most-signals) (i .some-rows) (i .most-rows)
+    ∙ (rw (rw n at b) (ap (λ ps. accepted (record { signals = f .signals; rows = f .rows; places = ps })) (sym (v .unused-true))))
+
+rows-in-places : (rs : List Row) → map (λ (p : RowPlace). p .row) (map inPlace rs) ≡ rs
+rows-in-places [] = refl
+rows-in-places (r ∷ rs) = ap (_∷_ r) (rows-in-places rs)
+
+rows-of : (s m : ℕ) (rs : List Row) → length rs ≡ m → m ≤ 64 → rowsOf (formulaOf s m rs) ≡ rs
+rows-of s m rs e h = rw (← e) (rw (take-placed 64 inPlace unused rs (omega arith)) (rows-in-places rs))
+
+-- the lines one behind the other
+joined : (file after-format after-signals body : List ℕ) (n s m : ℕ) (rs : List Row) → n ≡ 1 → length rs ≡ m → m ≤ 64
+    → file ≡ writtenLine (bytes "format") (decimal n) after-format
+    → after-format ≡ writtenLine (bytes "signals") (decimal s) after-signals
+    → after-signals ≡ writtenLine (bytes "rows") (decimal m) body
+    → body ≡ writtenBody 114 writtenRow 1 rs
+    → file ≡ writtenRule (formulaOf s m rs)
+unfolding writtenRule
+joined file after-format after-signals body n s m rs one size most a b c d =
+    a ∙ rw (one, b, c, d, rows-of s m rs size most)
+
+-- ONLY THE WRITTEN FORM OF A FORMULA IS READ
+pub rule-read : (file : List ℕ) (f : Formula) → parseRule file ≡ accepted f → (file ≡ writtenRule f) × Valid f
+unfolding parseRule
+rule-read file f e =
+    let whole : Result Formula = onLine 1 (keyedLine (isKey (bytes "format")) (countForm 1 1 WrongFormat)) file behindFormat in
+    let a = count-then (bytes "format") 1 1 WrongFormat 1 behindFormat file f (test-accepted (ltb 65536 (length file)) TooLong 0 whole f e) in
+    let b = count-then (bytes "signals") 1 32 CountOutOfRange 2 behindSignals (a .rest) f (a .goes) in
+    let c = count-then (bytes "rows") 1 64 CountOutOfRange 3 (behindRows (b .count)) (b .rest) f (b .goes) in
+    let s : ℕ = b .count in
+    let m : ℕ = c .count in
+    let d = map-accepted (formulaOf s m) (bodyLines 114 (rowValue s) m 1 4 (c .rest)) f (c .goes) in
+    let rs : List Row = d .0 in
+    let y : BodyOf 114 writtenRow (RowOk s) m 1 (c .rest) rs = body-read 114 (omega arith) (rowValue s) writtenRow (RowOk s) (value-read s) m 1 4 (c .rest) rs (d .1) in
+    let t : rowsOf (formulaOf s m rs) ≡ rs = rows-of s m rs (y .size) (c .most) in
+    let one : a .count ≡ 1 = omega (arith, a .least, a .most) in
+    let w : file ≡ writtenRule (formulaOf s m rs) = joined file (a .rest) (b .rest) (c .rest) (a .count) s m rs one (y .size) (c .most) (a .whole) (b .whole) (c .whole) (y .whole) in
+    subst (λ (x : Formula). (file ≡ writtenRule x) × Valid x) (d .2) (
+      w,
+      record {
+        in-range = record { some-signals = b .least; most-signals = b .most; some-rows = c .least; most-rows = c .most; rows-in-range = rw t (y .ok) };
+        unused-true = rw t;
+      },
+    )
+
+-- so that no two files yield one formula
+pub rule-once : (a b : List ℕ) (f : Formula) → parseRule a ≡ accepted f → parseRule b ≡ accepted f → a ≡ b
+rule-once a b f p q = rule-read a f p .0 ∙ sym (rule-read b f q .0)

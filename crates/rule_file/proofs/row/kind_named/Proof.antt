@@ -1,0 +1,60 @@
+use mathlib.Core.Path.{_≡_, subst}
+use mathlib.Core.Bool.{true, false}
+use Prim.Native.Nat.{_-_, _≤_}
+use mathlib.Core.Path.{_∙_, sym, ap}
+use lib.ListN.{length, take, length-take}
+use native.Mathlib.Omega.{arith}
+use borrow.Author.Needs.{needs}
+use Rattle.tables.specs.Bytes.{sameBytes}
+use Rattle.tables.specs.Kind.{kinds, kindAt, noKind, wordOf}
+use Rattle.tables.specs.declared.kind.Kind.{Kind}
+use Rattle.tables.proofs.KindTable.{word-fits}
+use Rattle.text.proofs.Searching.{FirstAt, first-starts, first-hit, first-miss, first-none, know}
+use Rattle.rule_file.specs.Row.{kindNamed}
+use Rattle.rule_file.proofs.row.kind_named.Statement.{statement}
+use Rattle.rule_file.proofs.row.kind_named.Tie as tie
+
+abbrev Inv-loop : tie.InvT-loop
+Inv-loop word place₀ place = FirstAt (λ (k : Kind). sameBytes word (wordOf k)) kinds place
+
+abbrev μ-loop : tie.MeasureT-loop
+μ-loop word place₀ place = 14 - place
+
+loop-holds : tie.Need-loop-holds Inv-loop μ-loop
+unfolding kindNamed kinds
+loop-holds c = first-starts _ _
+
+array-share-prefix-bytes : tie.Need-array-share-prefix-bytes Inv-loop μ-loop
+array-share-prefix-bytes c = rw (c .before .kind-at .ensures) (word-fits _ (search needs))
+
+slice-aggregate-same : tie.Need-slice-aggregate-same Inv-loop μ-loop
+slice-aggregate-same c = let h : c .before .before .kind-at .result .length ≤ length (c .before .before .kind-at .result .word) = rw (c .before .before .kind-at .ensures) (word-fits _ (search needs)) in simp length-take (omega arith)
+
+returns : tie.Need-returns Inv-loop μ-loop
+unfolding kindNamed kinds kindAt
+returns c = first-hit (c .before .before .before .before .before .before .loop .inv) noKind (search needs) (subst (λ (k : Kind). sameBytes (c .before .before .before .before .before .before .before .before .args .word .now) (wordOf k) ≡ true) (c .before .before .before .before .kind-at .ensures) (know (c .before .same .ensures) (c .if1 .taken)))
+
+loop-again : tie.Need-loop-again Inv-loop μ-loop
+unfolding kinds kindAt
+loop-again c = first-miss (c .before .before .before .before .before .before .loop .inv) noKind (search needs) (subst (λ (k : Kind). sameBytes (c .before .before .before .before .before .before .before .before .args .word .now) (wordOf k) ≡ false) (c .before .before .before .before .kind-at .ensures) (know (c .before .same .ensures) (c .if1 .left)))
+
+returns-2 : tie.Need-returns-2 Inv-loop μ-loop
+unfolding kindNamed kinds
+returns-2 c = first-none (c .before .loop .inv) (search needs)
+
+pub kind-named-spec : {M : Type 1} → statement M
+kind-named-spec =
+    tie.close
+    (tie.spec
+    Inv-loop
+    μ-loop
+    loop-holds
+    (λ c κs. search needs)
+    array-share-prefix-bytes
+    slice-aggregate-same
+    (λ c κs. search needs)
+    returns
+    (λ c. search needs)
+    (λ c. search needs)
+    loop-again
+    returns-2)

@@ -1,0 +1,95 @@
+use mathlib.Core.Path.{_∙_, sym}
+use native.Mathlib.Omega.{arith}
+use lib.ListN.{length-take, length-drop}
+use Rattle.text.proofs.Searching.{know, found, rest-part}
+use Rattle.rule_file.specs.Row.{rowForm}
+use borrow.Author.Needs.{needs}
+use Rattle.rule_file.proofs.row.row_form.Statement.{statement}
+use Rattle.rule_file.proofs.row.row_form.Tie as tie
+
+returns : tie.Need-returns
+unfolding rowForm
+returns c = c .form-of .ensures ∙ rw (know (c .before .before .before .find .ensures) (c .before .enum-told .given .1))
+
+slice-aggregate-word : tie.Need-slice-aggregate-word
+slice-aggregate-word c = simp length-take (omega (arith, found _ _ 0 (c .before .before .before .before .find .ensures) (c .before .before .space .given .1) .below))
+
+add-numbers : tie.Need-add-numbers
+add-numbers c = omega (arith, found _ _ 0 (c .before .before .before .before .find .ensures) (c .before .before .space .given .1) .below)
+
+sub-numbers : tie.Need-sub-numbers
+sub-numbers c = omega (arith, found _ _ 0 (c .before .before .before .before .find .ensures) (c .before .before .space .given .1) .below)
+
+part-numbers-start : tie.Need-part-numbers-start
+part-numbers-start c = omega (arith, found _ _ 0 (c .before .before .before .before .find .ensures) (c .before .before .space .given .1) .below)
+
+returns-2 : tie.Need-returns-2
+unfolding rowForm
+returns-2 c = rw (know (c .before .before .before .before .before .before .before .before .before .before .before .find .ensures) (c .before .before .before .before .before .before .before .before .before .space .given .1), know (rw rest-part at (c .before .before .before .before .before .find2 .ensures)) (c .before .before .before .enum-told2 .given .1), know (rw rest-part at (c .before .before .read-number .ensures)) (c .enum-told3 .given .1))
+
+returns-3 : tie.Need-returns-3
+unfolding rowForm
+returns-3 c = c .form-of2 .ensures ∙ rw (know (c .before .before .before .before .before .before .before .before .before .before .before .before .before .find .ensures) (c .before .before .before .before .before .before .before .before .before .before .before .space .given .1), know (rw rest-part at (c .before .before .before .before .before .before .before .find2 .ensures)) (c .before .before .before .before .before .enum-told2 .given .1), know (rw rest-part at (c .before .before .before .before .read-number .ensures)) (c .before .before .only .given .1))
+
+slice-aggregate-read-number : tie.Need-slice-aggregate-read-number
+slice-aggregate-read-number c = simp length-take (omega (arith, simp length-take at (found _ _ 0 (c .before .before .before .before .find2 .ensures) (c .before .before .between .given .1) .below)))
+
+returns-4 : tie.Need-returns-4
+unfolding rowForm
+returns-4 c = rw (know (c .before .before .before .before .before .before .before .before .before .before .before .before .before .find .ensures) (c .before .before .before .before .before .before .before .before .before .before .before .space .given .1), know (rw rest-part at (c .before .before .before .before .before .before .before .find2 .ensures)) (c .before .before .before .before .before .between .given .1), know (rw rest-part at (c .before .before .read-number2 .ensures)) (c .enum-told4 .given .1))
+
+add-read-number : tie.Need-add-read-number
+add-read-number c = omega (arith, found _ _ 0 (c .before .before .before .before .before .before .before .before .find2 .ensures) (c .before .before .before .before .before .before .between .given .1) .below)
+
+sub-read-number : tie.Need-sub-read-number
+sub-read-number c = omega (arith, found _ _ 0 (c .before .before .before .before .before .before .before .before .find2 .ensures) (c .before .before .before .before .before .before .between .given .1) .below)
+
+part-read-number-start : tie.Need-part-read-number-start
+part-read-number-start c = omega (arith, found _ _ 0 (c .before .before .before .before .before .before .before .before .find2 .ensures) (c .before .before .before .before .before .before .between .given .1) .below)
+
+returns-5 : tie.Need-returns-5
+unfolding rowForm
+returns-5 c = rw (know (c .before .before .before .before .before .before .before .before .before .before .before .before .before .before .before .before .before .before .find .ensures) (c .before .before .before .before .before .before .before .before .before .before .before .before .before .before .before .before .space .given .1), know (rw rest-part at (c .before .before .before .before .before .before .before .before .before .before .before .before .find2 .ensures)) (c .before .before .before .before .before .before .before .before .before .before .between .given .1), know (rw rest-part at (c .before .before .before .before .before .before .before .read-number2 .ensures)) (c .before .before .before .before .before .first .given .1), know (simp rest-part at (c .before .before .read-number3 .ensures)) (c .enum-told5 .given .1))
+
+returns-6 : tie.Need-returns-6
+unfolding rowForm
+returns-6 c = c .form-of3 .ensures ∙ rw (know (c .before .before .before .before .before .before .before .before .before .before .before .before .before .before .before .before .before .before .before .before .find .ensures) (c .before .before .before .before .before .before .before .before .before .before .before .before .before .before .before .before .before .before .space .given .1), know (rw rest-part at (c .before .before .before .before .before .before .before .before .before .before .before .before .before .before .find2 .ensures)) (c .before .before .before .before .before .before .before .before .before .before .before .before .between .given .1), know (rw rest-part at (c .before .before .before .before .before .before .before .before .before .read-number2 .ensures)) (c .before .before .before .before .before .before .before .first .given .1), know (simp rest-part at (c .before .before .before .before .read-number3 .ensures)) (c .before .before .second .given .1))
+
+pub row-form-spec : {M : Type 1} → statement M
+row-form-spec =
+    tie.close
+    (tie.spec
+    (λ c κs. search needs)
+    (λ c. search needs)
+    (λ c. search needs)
+    (λ c κs. search needs)
+    returns
+    slice-aggregate-word
+    add-numbers
+    sub-numbers
+    part-numbers-start
+    (λ c. search needs)
+    (λ c κs. search needs)
+    (λ c. search needs)
+    (λ c. search needs)
+    (λ c κs. search needs)
+    (λ c. search needs)
+    (λ c. search needs)
+    returns-2
+    (λ c κs. search needs)
+    returns-3
+    slice-aggregate-read-number
+    (λ c κs. search needs)
+    (λ c. search needs)
+    (λ c. search needs)
+    returns-4
+    add-read-number
+    sub-read-number
+    part-read-number-start
+    (λ c. search needs)
+    (λ c κs. search needs)
+    (λ c. search needs)
+    (λ c. search needs)
+    returns-5
+    (λ c κs. search needs)
+    returns-6)

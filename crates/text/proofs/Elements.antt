@@ -1,0 +1,50 @@
+-- The numbered lines of a file, element by element: that each is of its form, and how long they are. Assumes nothing.
+use mathlib.Core.Path.{_≡_, refl, sym, ap, _∙_}
+use mathlib.Core.List.{List, [], _∷_, _++_}
+use Prim.Native.Nat.{ℕ, zero, suc, _+_, _*_, _≤_, _<_}
+use native.Mathlib.Nat.{add-zero, suc-mul}
+use native.Mathlib.Omega.{arith}
+use lib.ListN.{length, getD, length-append}
+use Rattle.text.specs.Written.{decimal, writtenLine, writtenBody}
+use Rattle.text.proofs.Numbers.{decimal-length}
+use Rattle.text.specs.Body.{EachAt}
+
+module _ {A : Type 0} (Ok : ℕ → A → Type 0) (d : A) where
+  pub all-ok : (xs : List A) (k : ℕ) → ((i : ℕ) → i < length xs → Ok (k + i) (getD xs i d)) → EachAt Ok k xs
+  all-ok [] k h = tt
+  all-ok (x ∷ xs) k h =
+      (rw add-zero at (h 0 (omega arith)), all-ok xs (k + 1) (λ i l. let e : k + 1 + i ≡ k + suc i = omega arith in rw e (h (suc i) (omega arith))))
+
+  pub ok-at : (xs : List A) (k : ℕ) → EachAt Ok k xs → (i : ℕ) → i < length xs → Ok (k + i) (getD xs i d)
+  ok-at [] k ok i h = absurd (omega arith)
+  ok-at (x ∷ xs) k ok zero h = rw add-zero (ok .0)
+  ok-at (x ∷ xs) k ok (suc i) h = let e : k + suc i ≡ k + 1 + i = omega arith in rw e (ok-at xs (k + 1) (ok .1) i (omega arith))
+
+-- one element more
+pub ok-more : {A : Type 0} (Ok : ℕ → A → Type 0) (xs : List A) (x : A) (k : ℕ) → EachAt Ok k xs → Ok (k + length xs) x → EachAt Ok k (xs ++ (x ∷ []))
+ok-more Ok [] x k ok o = (rw add-zero at o, tt)
+ok-more Ok (y ∷ ys) x k ok o = (ok .0, ok-more Ok ys x (k + 1) (ok .1) (let e : k + suc (length ys) ≡ k + 1 + length ys = omega arith in rw e at o))
+
+-- ---- lengths
+
+pub decimal-short : (n : ℕ) → length (decimal n) ≤ 5
+unfolding decimal
+decimal-short n = decimal-length 4 n .1
+
+pub line-length : (key value rest : List ℕ) → length (writtenLine key value rest) ≡ length key + length value + length rest + 2
+line-length key value rest = simp length-append (omega arith)
+
+-- the line of a count
+pub count-short : (key : List ℕ) (n : ℕ) (rest : List ℕ) → length key ≤ 7 → length (writtenLine key (decimal n) rest) ≤ 14 + length rest
+count-short key n rest h = omega (arith, line-length key (decimal n) rest, decimal-short n)
+
+pub body-short : {A : Type 0} (letter : ℕ) (text : A → List ℕ) (d : A) (most : ℕ) (xs : List A) (k : ℕ)
+    → ((i : ℕ) → i < length xs → length (text (getD xs i d)) ≤ most) → length (writtenBody letter text k xs) ≤ length xs * (most + 8)
+unfolding writtenBody
+body-short letter text d most [] k h = omega arith
+body-short letter text d most (x ∷ xs) k h =
+    let rest : List ℕ = writtenBody letter text (k + 1) xs in
+    let a : length rest ≤ length xs * (most + 8) = body-short letter text d most xs (k + 1) (λ i l. h (suc i) (omega arith)) in
+    let b : length (text x) ≤ most = h 0 (omega arith) in
+    let c : suc (length xs) * (most + 8) ≡ length xs * (most + 8) + (most + 8) = suc-mul (length xs) (most + 8) in
+    omega (arith, line-length (letter ∷ decimal k) (text x) rest, decimal-short k)
