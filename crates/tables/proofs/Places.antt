@@ -74,6 +74,25 @@ placed-more {A} n g d xs x h =
     let s = set-tabulate n (λ i. g (getD xs i d)) (λ i. g (getD (xs ++ (x ∷ [])) i d)) (length xs) (g d) h (λ j m. ap g (snoc-other xs x d j m)) in
     rw e at s
 
+-- the first places
+take-tabulated : {A : Type 0} (m n k : ℕ) (f : ℕ → A) → m ≤ n → take m (tabulateFrom n k f) ≡ tabulateFrom m k f
+unfolding tabulateFrom
+take-tabulated zero n k f h = refl
+take-tabulated (suc m) zero k f h = absurd (omega arith)
+take-tabulated (suc m) (suc n) k f h = ap (_∷_ (f k)) (take-tabulated m n (suc k) f (omega arith))
+
+pub take-tabulate : {A : Type 0} (m n : ℕ) (f : ℕ → A) → m ≤ n → take m (tabulate n f) ≡ tabulate m f
+take-tabulate m n f h = take-tabulated m n 0 f h
+
+-- a function of each place
+map-tabulated : {A B : Type 0} (g : A → B) (n k : ℕ) (f : ℕ → A) → map g (tabulateFrom n k f) ≡ tabulateFrom n k (λ i. g (f i))
+unfolding tabulateFrom
+map-tabulated g zero k f = refl
+map-tabulated g (suc n) k f = ap (_∷_ (g (f k))) (map-tabulated g n (suc k) f)
+
+pub map-tabulate : {A B : Type 0} (g : A → B) (n : ℕ) (f : ℕ → A) → map g (tabulate n f) ≡ tabulate n (λ i. g (f i))
+map-tabulate g n f = map-tabulated g n 0 f
+
 -- the places that are filled
 pub take-placed : {A B : Type 0} (n : ℕ) (g : A → B) (d : A) (xs : List A) → length xs ≤ n → take (length xs) (placed n g d xs) ≡ map g xs
 take-placed n g d xs h =

@@ -1,5 +1,5 @@
 -- Digits 0 and 1: as a loop checks them, and their written form. Assumes nothing.
-use mathlib.Core.Path.{_≡_, refl, sym, ap, ap₂, _∙_}
+use mathlib.Core.Path.{_≡_, refl, sym, ap, ap₂, _∙_, subst}
 use mathlib.Core.Bool.{Bool, true, false}
 use mathlib.Core.List.{List, [], _∷_, map}
 use Prim.Native.Nat.{ℕ, suc, _+_, _-_, _≤_, _<_}
@@ -13,7 +13,10 @@ use borrow.Author.Tests.{lt-ltb, le-ltb, eq-eqb, ne-eqb, eqb-true, eqb-false}
 use Rattle.tables.specs.Choice.{pick}
 use Rattle.tables.specs.declared.refusal.Reason.the-variants.{WrongForm}
 use Rattle.text.specs.Search.{part}
-use Rattle.text.specs.Digits.{areDigits, digitsIn, digitsForm}
+use Rattle.text.specs.Line.{keyedLine}
+use Rattle.text.specs.Digits.{DigitsWithin, areDigits, digitsIn, digitsForm, digitsAt}
+use Rattle.text.specs.declared.digits.Digits.{Digits}
+use Rattle.text.specs.declared.digits.Digits.the-variants.{At, Wrong}
 use Rattle.text.specs.Written.{digitsText}
 use Rattle.text.specs.Result.{Parsed}
 use Rattle.text.specs.Result.Parsed.{good, bad}
@@ -116,3 +119,19 @@ digits-read n v ds =
 
     whole : eqb (length v) n ≡ true → areDigits v ≡ true → digitsIn v ≡ ds → (v ≡ digitsText ds) × (length ds ≡ n)
     whole e a q = (text-of-digits v a ∙ ap digitsText q, sym (ap length q) ∙ (length-map v (λ d. eqb d 49) ∙ eqb-true (length v) n e))
+
+-- where the digits of a line stand, of what a call ensures and what is known of its result
+pub digits-within : (rest : List ℕ) (count : ℕ) {r : Digits} {from end : ℕ} → DigitsWithin rest count r → r ≡ At from end → (from + count ≡ end) × (end < length rest)
+digits-within rest count w e = subst (DigitsWithin rest count) e w
+
+-- and what they say
+pub digits-good : (t : List ℕ → Bool) (count : ℕ) (rest : List ℕ) {r : Digits} {from end : ℕ} → digitsAt rest r ≡ keyedLine t (digitsForm count) rest → r ≡ At from end
+    → keyedLine t (digitsForm count) rest ≡ good (record { value = digitsIn (part from end rest); next = end + 1 })
+digits-good t count rest e d = sym e ∙ ap (digitsAt rest) d
+
+pub digits-bad : (t : List ℕ → Bool) (count : ℕ) (rest : List ℕ) {r : Digits} → digitsAt rest r ≡ keyedLine t (digitsForm count) rest → r ≡ Wrong
+    → keyedLine t (digitsForm count) rest ≡ bad WrongForm
+digits-bad t count rest e d = sym e ∙ ap (digitsAt rest) d
+
+pub text-length : (ds : List Bool) → length (digitsText ds) ≡ length ds
+text-length ds = length-map {B = ℕ} ds (λ b. pick b 49 48)

@@ -2,25 +2,27 @@
 use mathlib.Core.Path.{_≡_, refl, sym, ap, _∙_}
 use mathlib.Core.Bool.{Bool, true, false}
 use mathlib.Core.List.{List, [], _∷_, _++_}
-use Prim.Native.Nat.{ℕ, zero, suc, _+_, _*_, _/_, _%_, _≤_, _<_}
+use Prim.Native.Nat.{ℕ, zero, suc, _+_, _/_, _%_, _≤_, _<_}
 use native.Mathlib.Omega.{arith}
 use native.Mathlib.Decide.{decLt, ℕ-discrete}
-use lib.Dec.{eqb, ltb}
+use lib.Dec.{eqb}
 use lib.ListN.{length, drop, length-append}
 use borrow.Author.Tests.{le-ltb, lt-ltb, eq-eqb, ne-eqb}
 use Rattle.tables.specs.Choice.{pick}
 use Rattle.tables.specs.declared.refusal.Reason.{Reason}
 use Rattle.tables.specs.declared.refusal.Outcome.the-variants.{Accepted}
 use Rattle.text.specs.Line.{isKey, keyedLine}
-use Rattle.text.specs.Count.{countForm}
+use Rattle.text.specs.Count.{countForm, countedAs}
 use Rattle.text.specs.Result.{Parsed, Next, Result, onParsed, onLine, mapResult, outcomeOf}
 use Rattle.text.specs.Result.Parsed.{good, bad}
 use Rattle.text.specs.Result.Result.{accepted, refused}
 use Rattle.text.specs.Written.{decimalIn, decimal, writtenLine}
+use Rattle.text.specs.declared.line.Counted.{Counted}
+use Rattle.text.specs.declared.line.Counted.the-variants.{Count, Wrong}
 use Rattle.text.proofs.Searching.{clash, same-refl, same-eq}
 use Rattle.text.proofs.Numbers.{decimal-small, decimal-large, decimal-length}
-use Rattle.text.proofs.Lines.{Free, free-append, line-step, LineOf, line-read}
-use Rattle.text.proofs.Counts.{count-form, count-written, CountOf, count-read}
+use Rattle.text.proofs.Lines.{Free, free-append, line-step, line-read}
+use Rattle.text.proofs.Counts.{count-form, count-written, count-read}
 
 -- ---- bytes that a text lacks
 
@@ -206,3 +208,10 @@ module _ (key : List ℕ) (low high : ℕ) (outside : Reason) {B : Type 0} (line
         let c = count-read low high outside (decimal n) (w .0) (w .1) in
         let q : n ≡ w .0 = decimal-inj n (w .0) (c .text) in
         rw q (c .least, c .most, w .2)
+
+-- what a call ensures of a count's line, and what is known of its result
+pub counted-is : {p : Parsed (Next ℕ)} {r : Counted} {n i : ℕ} → countedAs r ≡ p → r ≡ Count n i → p ≡ good (record { value = n; next = i })
+counted-is e d = sym e ∙ ap countedAs d
+
+pub counted-wrong : {p : Parsed (Next ℕ)} {r : Counted} {x : Reason} → countedAs r ≡ p → r ≡ Wrong x → p ≡ bad x
+counted-wrong e d = sym e ∙ ap countedAs d

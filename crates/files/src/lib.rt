@@ -1,0 +1,16 @@
+// Files by name, for the programs: the one place where bytes come from outside.
+ghost use Rattle.io.specs.Counts.{Counts};
+
+// The file's first bytes, as many as the buffer holds. With 65,537 places a file that is too long for any format is known to be
+// so without being read whole. A file that cannot be opened or read counts as empty (01).
+pub fn load(path: &[u8], buf: &mut [u8]) -> usize
+    ensures { λ r. ⌜ Counts r (now (buf .exit)) ⌝ }
+{
+    let fd = os::open_read(path);
+    if fd < 0 {
+        return 0;
+    }
+    let n = io::read_full(fd, buf);
+    libc::close(fd);
+    n
+}

@@ -1,0 +1,214 @@
+-- The sheet file and its written form: an activation table that is written is read back, and only the written form of one is read. Assumes nothing.
+use mathlib.Core.Path.{_≡_, refl, sym, ap, _∙_, subst}
+use mathlib.Core.Bool.{Bool, false}
+use mathlib.Core.List.{List, [], map}
+use Prim.Native.Nat.{ℕ, _*_, _≤_, _<_, min}
+use native.Mathlib.Omega.{arith}
+use lib.Dec.{ltb}
+use lib.ListN.{length, getD, take, length-map, length-take, List·getD-map}
+use borrow.Author.Tests.{le-ltb}
+use Rattle.tables.specs.Choice.{pick}
+use Rattle.tables.specs.Bytes.{bytes}
+use Rattle.tables.specs.Place.{tabulate, placed}
+use Rattle.tables.specs.Bit.{bitAt}
+use Rattle.tables.specs.declared.refusal.Reason.the-variants.{TooLong, WrongFormat, CountOutOfRange}
+use Rattle.tables.specs.declared.refusal.Outcome.the-variants.{Accepted}
+use Rattle.tables.specs.declared.trace.Activation.{Activation}
+use Rattle.tables.specs.declared.trace.Line.{Line}
+use Rattle.tables.proofs.Places.{length-tabulate, tabulate-ext, tabulate-getD, take-tabulate, map-tabulate}
+use Rattle.tables.proofs.Bits.{bit-of-line}
+use Rattle.text.specs.Line.{isKey, keyedLine}
+use Rattle.text.specs.Count.{countForm}
+use Rattle.text.specs.Digits.{digitsForm}
+use Rattle.text.specs.Body.{bodyLines}
+use Rattle.text.specs.Result.{Result, onLine, mapResult, outcomeOf}
+use Rattle.text.specs.Result.Result.{accepted, refused}
+use Rattle.text.specs.Written.{decimal, writtenLine, writtenBody, digitsText}
+use Rattle.text.proofs.DigitLines.{digits-written, digits-free, digits-read, text-length}
+use Rattle.text.proofs.Bodies.{body-written, body-read}
+use Rattle.text.proofs.Elements.{all-ok, ok-at, count-short, body-short}
+use Rattle.text.proofs.Headers.{map-accepted, test-accepted, outcome-accepted, count-then, count-in, count-below, count-above, count-range}
+use Rattle.sheet_file.specs.Sheet.{rowLine, activationOf, parseSheet}
+use Rattle.sheet_file.specs.Written.{rowsOf, writtenSheet}
+use Rattle.sheet_file.specs.Valid.{InRange, Valid}
+
+-- ---- the file from each of its lines on
+
+abbrev FromBody : ℕ → ℕ → List ℕ → Result Activation
+FromBody rows cycles body = mapResult (activationOf rows cycles) (bodyLines 122 (λ r. digitsForm cycles) rows 1 4 body)
+
+abbrev FromCycles : ℕ → List ℕ → Result Activation
+FromCycles rows rest = onLine 3 (keyedLine (isKey (bytes "cycles")) (countForm 1 256 CountOutOfRange)) rest (FromBody rows)
+
+abbrev FromRows : ℕ → List ℕ → Result Activation
+FromRows one rest = onLine 2 (keyedLine (isKey (bytes "rows")) (countForm 1 128 CountOutOfRange)) rest FromCycles
+
+by-lines : (file : List ℕ)
+    → parseSheet file ≡ pick (ltb 65536 (length file)) (refused TooLong 0) (onLine 1 (keyedLine (isKey (bytes "format")) (countForm 1 1 WrongFormat)) file FromRows)
+unfolding parseSheet
+by-lines file = refl
+
+-- ---- the rows of a table that was read
+
+-- the digits of a row, out of its line
+row-of : (cycles : ℕ) (r : List Bool) → cycles ≤ 256 → length r ≡ cycles → tabulate cycles (bitAt (rowLine r)) ≡ r
+row-of cycles r h e =
+    tabulate-ext cycles (bitAt (rowLine r)) (λ c. getD r c false) (λ c l. bit-of-line (λ c. getD r c false) c (omega arith)) ∙ tabulate-getD r cycles false e
+
+rows-of : (rows cycles : ℕ) (rs : List (List Bool)) → rows ≤ 128 → cycles ≤ 256 → length rs ≡ rows
+    → ((k : ℕ) → k < length rs → length (getD rs k []) ≡ cycles) → rowsOf (activationOf rows cycles rs) ≡ rs
+rows-of rows cycles rs h l e each =
+    let m : min cycles 256 ≡ cycles = omega arith in
+    rw m (ap (map (λ (l : Line). tabulate cycles (bitAt l))) (take-tabulate rows 128 (λ i. rowLine (getD rs i [])) h)
+    ∙ (map-tabulate (λ (l : Line). tabulate cycles (bitAt l)) rows (λ i. rowLine (getD rs i []))
+    ∙ (tabulate-ext rows (λ i. tabulate cycles (bitAt (rowLine (getD rs i [])))) (λ i. getD rs i []) (λ i n. row-of cycles (getD rs i []) l (each i (omega arith)))
+    ∙ tabulate-getD rs rows [] e)))
+
+-- what is known of a table once its header is read
+module _ (rows cycles : ℕ) (some-r : 1 ≤ rows) (most-r : rows ≤ 128) (some-c : 1 ≤ cycles) (most-c : cycles ≤ 256) where
+  body-says : (body : List ℕ) (a : Activation) → FromBody rows cycles body ≡ accepted a
+      → (a .rows ≡ rows) × (a .cycles ≡ cycles) × (body ≡ writtenBody 122 digitsText 1 (rowsOf a)) × Valid a
+  body-says body a e =
+      let m = map-accepted (activationOf rows cycles) (bodyLines 122 (λ r. digitsForm cycles) rows 1 4 body) a e in
+      let b = body-read 122 (omega arith) (λ r. digitsForm cycles) digitsText (λ r ds. length ds ≡ cycles) (λ r v ds q. digits-read cycles v ds q) rows 1 4 body (m .0) (m .1) in
+      subst P (m .2) (whole (m .0) (b .size) (b .whole) (λ k h. ok-at (λ r ds. length ds ≡ cycles) [] (m .0) 1 (b .ok) k h))
+    where
+      P : Activation → Type 0
+      P a = (a .rows ≡ rows) × (a .cycles ≡ cycles) × (body ≡ writtenBody 122 digitsText 1 (rowsOf a)) × Valid a
+
+      whole : (rs : List (List Bool)) → length rs ≡ rows → body ≡ writtenBody 122 digitsText 1 rs → ((k : ℕ) → k < length rs → length (getD rs k []) ≡ cycles)
+          → P (activationOf rows cycles rs)
+      whole rs n w each =
+          let r : rowsOf (activationOf rows cycles rs) ≡ rs = rows-of rows cycles rs most-r most-c n each in (
+            refl,
+            refl,
+            w ∙ ap (writtenBody 122 digitsText 1) (sym r),
+            record {
+              range = record { some-rows = some-r; most-rows = most-r; some-cycles = some-c; most-cycles = most-c };
+              unused = ap (placed 128 rowLine []) (sym r);
+            },
+          )
+
+-- the lines of a file put together
+together : (t : Activation) (file a b body : List ℕ) (one rows cycles : ℕ) → (1 ≤ one) × (one ≤ 1)
+    → file ≡ writtenLine (bytes "format") (decimal one) a → a ≡ writtenLine (bytes "rows") (decimal rows) b → b ≡ writtenLine (bytes "cycles") (decimal cycles) body
+    → (t .rows ≡ rows) × (t .cycles ≡ cycles) × (body ≡ writtenBody 122 digitsText 1 (rowsOf t)) × Valid t → (file ≡ writtenSheet t) × Valid t
+unfolding writtenSheet
+together t file a b body one rows cycles o ea eb ec w =
+    let n : one ≡ 1 = omega (arith, o .0, o .1) in
+    (rw (ea, eb, ec, n, w .2, w .0, w .1), w .3)
+
+-- ONLY THE WRITTEN FORM OF AN ACTIVATION TABLE IS READ
+pub sheet-read : (file : List ℕ) (a : Activation) → parseSheet file ≡ accepted a → (file ≡ writtenSheet a) × Valid a
+sheet-read file a e =
+    let p = test-accepted (ltb 65536 (length file)) TooLong 0 (onLine 1 (keyedLine (isKey (bytes "format")) (countForm 1 1 WrongFormat)) file FromRows) a (sym (by-lines file) ∙ e) in
+    let f = count-then (bytes "format") 1 1 WrongFormat 1 FromRows file a p in
+    let r = count-then (bytes "rows") 1 128 CountOutOfRange 2 FromCycles (f .rest) a (f .goes) in
+    let c = count-then (bytes "cycles") 1 256 CountOutOfRange 3 (FromBody (r .count)) (r .rest) a (r .goes) in
+    let b = body-says (r .count) (c .count) (r .least) (r .most) (c .least) (c .most) (c .rest) a (c .goes) in
+    together a file (f .rest) (r .rest) (c .rest) (f .count) (r .count) (c .count) (f .least, f .most) (f .whole) (r .whole) (c .whole) b
+
+-- ---- a table as its file
+
+-- what a written table has behind each line
+abbrev AfterCycles : Activation → List ℕ
+AfterCycles a = writtenBody 122 digitsText 1 (rowsOf a)
+
+abbrev AfterRows : Activation → List ℕ
+AfterRows a = writtenLine (bytes "cycles") (decimal (a .cycles)) (AfterCycles a)
+
+abbrev AfterFormat : Activation → List ℕ
+AfterFormat a = writtenLine (bytes "rows") (decimal (a .rows)) (AfterRows a)
+
+by-line : (a : Activation) → writtenSheet a ≡ writtenLine (bytes "format") (decimal 1) (AfterFormat a)
+unfolding writtenSheet
+by-line a = refl
+
+module _ (a : Activation) (full : length (a .lines) ≡ 128) where
+  digits : Line → List Bool
+  digits l = tabulate (min (a .cycles) 256) (bitAt l)
+
+  -- the digits of a line that is not there
+  none : List Bool
+  none = digits (record { words = [] })
+
+  digits-length : (k : ℕ) → length (getD (rowsOf a) k none) ≡ min (a .cycles) 256
+  unfolding digits none
+  digits-length k =
+      let l : Line = getD (take (a .rows) (a .lines)) k (record { words = [] }) in
+      ap length (List·getD-map digits (take (a .rows) (a .lines)) k (record { words = [] })) ∙ length-tabulate (min (a .cycles) 256) 0 (bitAt l)
+
+  rows-length : length (rowsOf a) ≡ min (a .rows) 128
+  unfolding digits
+  rows-length = length-map (take (a .rows) (a .lines)) digits ∙ (length-take (a .rows) (a .lines) ∙ rw full)
+
+  short : length (writtenSheet a) ≤ 65536
+  short =
+      let b : length (AfterCycles a) ≤ length (rowsOf a) * 264 = body-short 122 digitsText none 256 (rowsOf a) 1 (λ k h. rw (text-length, digits-length k) (omega arith)) in
+      let c = count-short (bytes "cycles") (a .cycles) (AfterCycles a) (omega arith) in
+      let d = count-short (bytes "rows") (a .rows) (AfterRows a) (omega arith) in
+      let e = count-short (bytes "format") 1 (AfterFormat a) (omega arith) in
+      rw by-line (omega (arith, rows-length))
+
+  from-rows : parseSheet (writtenSheet a) ≡ FromRows 1 (AfterFormat a)
+  from-rows =
+      by-lines (writtenSheet a) ∙ rw (le-ltb 65536 (length (writtenSheet a)) short, by-line) (count-in (bytes "format") 1 1 WrongFormat 1 FromRows refl refl 1 (AfterFormat a) (omega arith) (omega arith) (omega arith))
+
+  -- THE REFUSALS, in the order of the lines
+  module _ (h : a .rows < 100000) where
+    pub rows-below : a .rows < 1 → parseSheet (writtenSheet a) ≡ refused CountOutOfRange 2
+    rows-below l = from-rows ∙ count-below (bytes "rows") 1 128 CountOutOfRange 2 FromCycles refl refl (a .rows) (AfterRows a) l h
+
+    pub rows-above : 128 < a .rows → parseSheet (writtenSheet a) ≡ refused CountOutOfRange 2
+    rows-above l = from-rows ∙ count-above (bytes "rows") 1 128 CountOutOfRange 2 FromCycles refl refl (a .rows) (AfterRows a) (omega arith) l h
+
+  module _ (some-r : 1 ≤ a .rows) (most-r : a .rows ≤ 128) where
+    from-cycles : parseSheet (writtenSheet a) ≡ FromCycles (a .rows) (AfterRows a)
+    from-cycles = from-rows ∙ count-in (bytes "rows") 1 128 CountOutOfRange 2 FromCycles refl refl (a .rows) (AfterRows a) some-r most-r (omega arith)
+
+    module _ (h : a .cycles < 100000) where
+      pub cycles-below : a .cycles < 1 → parseSheet (writtenSheet a) ≡ refused CountOutOfRange 3
+      cycles-below l = from-cycles ∙ count-below (bytes "cycles") 1 256 CountOutOfRange 3 (FromBody (a .rows)) refl refl (a .cycles) (AfterCycles a) l h
+
+      pub cycles-above : 256 < a .cycles → parseSheet (writtenSheet a) ≡ refused CountOutOfRange 3
+      cycles-above l = from-cycles ∙ count-above (bytes "cycles") 1 256 CountOutOfRange 3 (FromBody (a .rows)) refl refl (a .cycles) (AfterCycles a) (omega arith) l h
+
+    -- what is read of a table in range: the same table, but for the bits that it does not use
+    pub in-range : 1 ≤ a .cycles → a .cycles ≤ 256 → parseSheet (writtenSheet a) ≡ accepted (activationOf (a .rows) (a .cycles) (rowsOf a))
+    in-range some-c most-c =
+        let n : length (rowsOf a) ≡ a .rows = rows-length ∙ omega arith in
+        let each : (k : ℕ) → k < length (rowsOf a) → length (getD (rowsOf a) k none) ≡ a .cycles = λ k h. digits-length k ∙ omega arith in
+        let ok = all-ok (λ r ds. length ds ≡ a .cycles) none (rowsOf a) 1 each in
+        let b : bodyLines 122 (λ r. digitsForm (a .cycles)) (length (rowsOf a)) 1 4 (AfterCycles a) ≡ accepted (rowsOf a) =
+        body-written 122 (omega arith) (λ r. digitsForm (a .cycles)) digitsText (λ r ds. length ds ≡ a .cycles) (λ r ds h e. (digits-written (a .cycles) ds e, digits-free ds)) (rowsOf a) 1 4 (omega arith) ok in
+        from-cycles ∙ (count-in (bytes "cycles") 1 256 CountOutOfRange 3 (FromBody (a .rows)) refl refl (a .cycles) (AfterCycles a) some-c most-c (omega arith) ∙ rw (rw n at b))
+
+-- AN ACTIVATION TABLE THAT IS WRITTEN IS READ BACK
+pub sheet-written : (a : Activation) → Valid a → parseSheet (writtenSheet a) ≡ accepted a
+sheet-written a v =
+    let full : length (a .lines) ≡ 128 = ap length (v .unused) ∙ length-tabulate 128 0 (λ i. rowLine (getD (rowsOf a) i [])) in
+    in-range a full (v .range .some-rows) (v .range .most-rows) (v .range .some-cycles) (v .range .most-cycles)
+    ∙ ap (λ ls. accepted (record { rows = a .rows; cycles = a .cycles; lines = ls })) (sym (v .unused))
+
+-- TWO FILES THAT YIELD ONE TABLE ARE THE SAME
+pub sheet-once : (f g : List ℕ) (a : Activation) → parseSheet f ≡ accepted a → parseSheet g ≡ accepted a → f ≡ g
+sheet-once f g a p q = sheet-read f a p .0 ∙ sym (sheet-read g a q .0)
+
+accepted-range : (a x : Activation) → parseSheet (writtenSheet a) ≡ accepted x → InRange a
+unfolding writtenSheet
+accepted-range a x e =
+    let p = test-accepted (ltb 65536 (length (writtenSheet a))) TooLong 0 _ x (sym (by-lines (writtenSheet a)) ∙ e) in
+    let f = count-range (bytes "format") 1 1 WrongFormat 1 FromRows refl refl 1 (AfterFormat a) x p in
+    let r = count-range (bytes "rows") 1 128 CountOutOfRange 2 FromCycles refl refl (a .rows) (AfterRows a) x (f .2) in
+    let c = count-range (bytes "cycles") 1 256 CountOutOfRange 3 (FromBody (a .rows)) refl refl (a .cycles) (AfterCycles a) x (r .2) in
+    record { some-rows = r .0; most-rows = r .1; some-cycles = c .0; most-cycles = c .1 }
+
+-- AN ACTIVATION TABLE THAT PASSES THE CHECK IS IN RANGE
+pub checked : (a : Activation) → outcomeOf 3 (parseSheet (writtenSheet a)) ≡ Accepted → InRange a
+checked a e =
+    let x = outcome-accepted 3 (parseSheet (writtenSheet a)) e in
+    accepted-range a (x .0) (x .1)
+
+-- and one in range passes it
+pub checked-all : (a : Activation) → length (a .lines) ≡ 128 → InRange a → outcomeOf 3 (parseSheet (writtenSheet a)) ≡ Accepted
+checked-all a full r = ap (outcomeOf 3) (in-range a full (r .some-rows) (r .most-rows) (r .some-cycles) (r .most-cycles))

@@ -1,0 +1,91 @@
+use mathlib.Core.Path.{_∙_, ap}
+use lib.ListN.{length}
+use borrow.Author.Tests.{lt-ltb, le-ltb}
+use Rattle.text.specs.Count.{reasonOf}
+use Rattle.text.proofs.Searching.{rest-part}
+use Rattle.text.proofs.Counts.{counted}
+use Rattle.text.proofs.Headers.{counted-is, counted-wrong}
+use Rattle.sheet_file.specs.Sheet.{parseSheet}
+use borrow.Author.Needs.{needs}
+use Rattle.sheet_file.proofs.sheet.read_sheet.Statement.{statement}
+use Rattle.sheet_file.proofs.sheet.read_sheet.Tie as tie
+
+returns : tie.Need-returns
+unfolding parseSheet
+returns c = c .refuse .ensures ∙ rw (lt-ltb 65536 (length (c .before .before .before .args .file .now)) (search needs))
+
+returns-2 : tie.Need-returns-2
+unfolding parseSheet
+returns-2 c = c .refuse2 .ensures ∙ rw (le-ltb _ _ (c .before .before .before .before .before .before .if1 .left), counted-wrong (c .before .before .before .before .count-line .ensures) (c .before .before .enum-told .given .1), c .before .count-reason .ensures ∙ ap reasonOf (c .before .before .enum-told .given .1))
+
+sub-after-format : tie.Need-sub-after-format
+sub-after-format c = counted _ _ _ _ _ (c .before .before .before .count-line .ensures) (c .before .first .given .1) .2
+
+part-after-format-start : tie.Need-part-after-format-start
+part-after-format-start c = counted _ _ _ _ _ (c .before .before .before .count-line .ensures) (c .before .first .given .1) .2
+
+returns-3 : tie.Need-returns-3
+unfolding parseSheet
+returns-3 c = c .refuse3 .ensures ∙ rw (le-ltb _ _ (c .before .before .before .before .before .before .before .before .before .before .before .before .if1 .left), counted-is (c .before .before .before .before .before .before .before .before .before .before .count-line .ensures) (c .before .before .before .before .before .before .before .before .first .given .1), counted-wrong (rw rest-part at (c .before .before .before .before .count-line2 .ensures)) (c .before .before .enum-told2 .given .1), c .before .count-reason2 .ensures ∙ ap reasonOf (c .before .before .enum-told2 .given .1))
+
+sub-after-rows : tie.Need-sub-after-rows
+sub-after-rows c = counted _ _ _ _ _ (c .before .before .before .count-line2 .ensures) (c .before .second .given .1) .2
+
+part-after-rows-start : tie.Need-part-after-rows-start
+part-after-rows-start c = counted _ _ _ _ _ (c .before .before .before .count-line2 .ensures) (c .before .second .given .1) .2
+
+returns-4 : tie.Need-returns-4
+unfolding parseSheet
+returns-4 c = c .refuse4 .ensures ∙ rw (le-ltb _ _ (c .before .before .before .before .before .before .before .before .before .before .before .before .before .before .before .before .before .before .if1 .left), counted-is (c .before .before .before .before .before .before .before .before .before .before .before .before .before .before .before .before .count-line .ensures) (c .before .before .before .before .before .before .before .before .before .before .before .before .before .before .first .given .1), counted-is (rw rest-part at (c .before .before .before .before .before .before .before .before .before .before .count-line2 .ensures)) (c .before .before .before .before .before .before .before .before .second .given .1), counted-wrong (rw (rest-part, rest-part) at (c .before .before .before .before .count-line3 .ensures)) (c .before .before .enum-told3 .given .1), c .before .count-reason3 .ensures ∙ ap reasonOf (c .before .before .enum-told3 .given .1))
+
+sub-read-rows : tie.Need-sub-read-rows
+sub-read-rows c = counted _ _ _ _ _ (c .before .before .before .count-line3 .ensures) (c .before .third .given .1) .2
+
+part-read-rows-start : tie.Need-part-read-rows-start
+part-read-rows-start c = counted _ _ _ _ _ (c .before .before .before .count-line3 .ensures) (c .before .third .given .1) .2
+
+read-rows-requires : tie.Need-read-rows-requires
+read-rows-requires c κs = (counted _ _ _ _ _ (c .before .before .before .before .before .before .before .before .before .before .count-line2 .ensures) (c .before .before .before .before .before .before .before .before .second .given .1) .1, counted _ _ _ _ _ (c .before .before .before .before .count-line3 .ensures) (c .before .before .third .given .1) .1)
+
+returns-5 : tie.Need-returns-5
+unfolding parseSheet
+returns-5 c = rw (rest-part, rest-part, rest-part) at (c .read-rows .ensures) ∙ rw (le-ltb _ _ (c .before .before .before .before .before .before .before .before .before .before .before .before .before .before .before .before .before .before .before .if1 .left), counted-is (c .before .before .before .before .before .before .before .before .before .before .before .before .before .before .before .before .before .count-line .ensures) (c .before .before .before .before .before .before .before .before .before .before .before .before .before .before .before .first .given .1), counted-is (rw rest-part at (c .before .before .before .before .before .before .before .before .before .before .before .count-line2 .ensures)) (c .before .before .before .before .before .before .before .before .before .second .given .1), counted-is (rw (rest-part, rest-part) at (c .before .before .before .before .before .count-line3 .ensures)) (c .before .before .before .third .given .1))
+
+pub read-sheet-spec : {M : Type 1} → statement M
+read-sheet-spec =
+    tie.close
+    (tie.spec
+    (λ c κs. search needs)
+    returns
+    (λ c. search needs)
+    (λ c κs. search needs)
+    (λ c. search needs)
+    (λ c. search needs)
+    (λ c κs. search needs)
+    (λ c κs. search needs)
+    returns-2
+    sub-after-format
+    part-after-format-start
+    (λ c. search needs)
+    (λ c. search needs)
+    (λ c κs. search needs)
+    (λ c. search needs)
+    (λ c. search needs)
+    (λ c κs. search needs)
+    (λ c κs. search needs)
+    returns-3
+    sub-after-rows
+    part-after-rows-start
+    (λ c. search needs)
+    (λ c. search needs)
+    (λ c κs. search needs)
+    (λ c. search needs)
+    (λ c. search needs)
+    (λ c κs. search needs)
+    (λ c κs. search needs)
+    returns-4
+    sub-read-rows
+    part-read-rows-start
+    (λ c. search needs)
+    read-rows-requires
+    returns-5)

@@ -1,0 +1,4 @@
+pub mod Cycles
+pub mod Endings
+pub mod Reading
+pub mod Takes

@@ -1,0 +1,258 @@
+-- The take file and its written form: a trace that is written is read back, and only the written form of a trace is read. Assumes nothing.
+use mathlib.Core.Path.{_≡_, refl, sym, ap, _∙_, subst}
+use mathlib.Core.Bool.{Bool, false}
+use mathlib.Core.List.{List, [], map}
+use Prim.Native.Nat.{ℕ, _*_, _≤_, _<_, min}
+use native.Mathlib.Omega.{arith}
+use lib.Dec.{ltb}
+use lib.ListN.{length, getD, take, length-map, length-take}
+use borrow.Author.Tests.{le-ltb, ltb-false}
+use Rattle.tables.specs.Choice.{pick}
+use Rattle.tables.specs.Bytes.{bytes}
+use Rattle.tables.specs.Bit.{bitAt, lineOf}
+use Rattle.tables.specs.declared.refusal.Reason.the-variants.{TooLong, WrongFormat, CountOutOfRange, BadLoop}
+use Rattle.tables.specs.declared.refusal.Outcome.the-variants.{Accepted}
+use Rattle.tables.specs.declared.trace.Ending.{Ending}
+use Rattle.tables.specs.declared.trace.Ending.the-variants.{Open, Loop}
+use Rattle.tables.specs.declared.trace.Line.{Line}
+use Rattle.tables.specs.declared.trace.Trace.{Trace}
+use Rattle.tables.proofs.Places.{length-tabulate, getD-tabulate, tabulate-ext, tabulate-getD, take-tabulate, map-tabulate}
+use Rattle.tables.proofs.Bits.{bit-of-line}
+use Rattle.text.specs.Line.{isKey, keyedLine}
+use Rattle.text.specs.Count.{countForm}
+use Rattle.text.specs.Digits.{digitsForm}
+use Rattle.text.specs.Body.{bodyLines}
+use Rattle.text.specs.Result.{Result, onParsed, onLine, mapResult, outcomeOf}
+use Rattle.text.specs.Result.Parsed.{bad}
+use Rattle.text.specs.Result.Result.{accepted, refused}
+use Rattle.text.specs.Written.{decimal, writtenLine, writtenBody, digitsText}
+use Rattle.text.proofs.Searching.{clash, same-refl, same-eq}
+use Rattle.text.proofs.Lines.{line-step}
+use Rattle.text.proofs.DigitLines.{digits-written, digits-free, digits-read, text-length}
+use Rattle.text.proofs.Bodies.{body-written, body-read}
+use Rattle.text.proofs.Elements.{all-ok, ok-at, decimal-short, line-length, count-short, body-short}
+use Rattle.text.proofs.Headers.{free, parsed-accepted, map-accepted, test-accepted, outcome-accepted, line-then, count-then, count-in, count-below, count-above, count-range}
+use Rattle.take_file.specs.Ending.{endingValue}
+use Rattle.take_file.specs.Take.{digit, linesOf, traceOf, parseTake}
+use Rattle.take_file.specs.Written.{endingText, cyclesOf, writtenTake}
+use Rattle.take_file.specs.Valid.{Below, isBelow, InRange, Valid}
+use Rattle.take_file.proofs.Endings.{ending-free, ending-written, ending-outside, ending-read, ending-range}
+
+-- ---- the file from each of its lines on
+
+abbrev FromBody : ℕ → ℕ → Ending → List ℕ → Result Trace
+FromBody signals cycles ending body = mapResult (traceOf signals cycles ending) (bodyLines 99 (λ c. digitsForm signals) cycles 0 5 body)
+
+abbrev FromLoop : ℕ → ℕ → List ℕ → Result Trace
+FromLoop signals cycles rest = onLine 4 (keyedLine (isKey (bytes "loop")) (endingValue cycles)) rest (FromBody signals cycles)
+
+abbrev FromCycles : ℕ → List ℕ → Result Trace
+FromCycles signals rest = onLine 3 (keyedLine (isKey (bytes "cycles")) (countForm 1 256 CountOutOfRange)) rest (FromLoop signals)
+
+abbrev FromSignals : ℕ → List ℕ → Result Trace
+FromSignals one rest = onLine 2 (keyedLine (isKey (bytes "signals")) (countForm 1 32 CountOutOfRange)) rest FromCycles
+
+by-lines : (file : List ℕ)
+    → parseTake file ≡ pick (ltb 65536 (length file)) (refused TooLong 0) (onLine 1 (keyedLine (isKey (bytes "format")) (countForm 1 1 WrongFormat)) file FromSignals)
+unfolding parseTake
+by-lines file = refl
+
+-- ---- the cycles of a table that was read
+
+-- the digits of cycle k, out of the lines of the signals
+cycle-of : (signals : ℕ) (cs : List (List Bool)) (k : ℕ) → signals ≤ 32 → k < 256 → length (getD cs k []) ≡ signals
+    → map (λ (l : Line). bitAt l k) (take signals (linesOf cs)) ≡ getD cs k []
+cycle-of signals cs k h l e =
+    ap (map (λ (l : Line). bitAt l k)) (take-tabulate signals 32 (λ s. lineOf (λ c. digit cs c s)) h)
+    ∙ (map-tabulate (λ (l : Line). bitAt l k) signals (λ s. lineOf (λ c. digit cs c s))
+    ∙ (tabulate-ext signals (λ s. bitAt (lineOf (λ c. digit cs c s)) k) (λ s. digit cs k s) (λ s m. bit-of-line (λ c. digit cs c s) k l)
+    ∙ tabulate-getD (getD cs k []) signals false e))
+
+cycles-of : (signals cycles : ℕ) (ending : Ending) (cs : List (List Bool)) → signals ≤ 32 → cycles ≤ 256 → length cs ≡ cycles
+    → ((k : ℕ) → k < length cs → length (getD cs k []) ≡ signals) → cyclesOf (traceOf signals cycles ending cs) ≡ cs
+cycles-of signals cycles ending cs h l e each =
+    let m : min cycles 256 ≡ cycles = omega arith in
+    rw m (tabulate-ext cycles (λ c. map (λ (l : Line). bitAt l c) (take signals (linesOf cs))) (λ c. getD cs c []) (λ k n. cycle-of signals cs k h (omega arith) (each k (omega arith)))
+    ∙ tabulate-getD cs cycles [] e)
+
+-- what is known of a trace once its header is read
+module _ (signals cycles : ℕ) (ending : Ending) (some-s : 1 ≤ signals) (most-s : signals ≤ 32) (some-c : 1 ≤ cycles) (most-c : cycles ≤ 256) (loop : Below cycles ending) where
+  body-says : (body : List ℕ) (t : Trace) → FromBody signals cycles ending body ≡ accepted t
+      → (t .signals ≡ signals) × (t .cycles ≡ cycles) × (t .ending ≡ ending) × (body ≡ writtenBody 99 digitsText 0 (cyclesOf t)) × Valid t
+  body-says body t e =
+      let m = map-accepted (traceOf signals cycles ending) (bodyLines 99 (λ c. digitsForm signals) cycles 0 5 body) t e in
+      let b = body-read 99 (omega arith) (λ c. digitsForm signals) digitsText (λ c ds. length ds ≡ signals) (λ c v ds q. digits-read signals v ds q) cycles 0 5 body (m .0) (m .1) in
+      subst P (m .2) (whole (m .0) (b .size) (b .whole) (λ k h. ok-at (λ c ds. length ds ≡ signals) [] (m .0) 0 (b .ok) k h))
+    where
+      P : Trace → Type 0
+      P t = (t .signals ≡ signals) × (t .cycles ≡ cycles) × (t .ending ≡ ending) × (body ≡ writtenBody 99 digitsText 0 (cyclesOf t)) × Valid t
+
+      whole : (cs : List (List Bool)) → length cs ≡ cycles → body ≡ writtenBody 99 digitsText 0 cs → ((k : ℕ) → k < length cs → length (getD cs k []) ≡ signals)
+          → P (traceOf signals cycles ending cs)
+      whole cs n w each =
+          let c : cyclesOf (traceOf signals cycles ending cs) ≡ cs = cycles-of signals cycles ending cs most-s most-c n each in (
+            refl,
+            refl,
+            refl,
+            w ∙ ap (writtenBody 99 digitsText 0) (sym c),
+            record {
+              range = record { some-signals = some-s; most-signals = most-s; some-cycles = some-c; most-cycles = most-c; loop = loop };
+              unused = ap linesOf (sym c);
+            },
+          )
+
+-- the lines of a file put together
+together : (t : Trace) (file a b c body key text : List ℕ) (one signals cycles : ℕ) (ending : Ending) → (1 ≤ one) × (one ≤ 1) → key ≡ bytes "loop" → text ≡ endingText ending
+    → file ≡ writtenLine (bytes "format") (decimal one) a → a ≡ writtenLine (bytes "signals") (decimal signals) b
+    → b ≡ writtenLine (bytes "cycles") (decimal cycles) c → c ≡ writtenLine key text body
+    → (t .signals ≡ signals) × (t .cycles ≡ cycles) × (t .ending ≡ ending) × (body ≡ writtenBody 99 digitsText 0 (cyclesOf t)) × Valid t → (file ≡ writtenTake t) × Valid t
+unfolding writtenTake
+together t file a b c body key text one signals cycles ending o k v ea eb ec ed w =
+    let n : one ≡ 1 = omega (arith, o .0, o .1) in
+    (rw (ea, eb, ec, ed, k, v, n, w .3, w .0, w .1, w .2), w .4)
+
+-- ONLY THE WRITTEN FORM OF A TRACE IS READ
+pub take-read : (file : List ℕ) (t : Trace) → parseTake file ≡ accepted t → (file ≡ writtenTake t) × Valid t
+take-read file t e =
+    let a = test-accepted (ltb 65536 (length file)) TooLong 0 (onLine 1 (keyedLine (isKey (bytes "format")) (countForm 1 1 WrongFormat)) file FromSignals) t (sym (by-lines file) ∙ e) in
+    let f = count-then (bytes "format") 1 1 WrongFormat 1 FromSignals file t a in
+    let s = count-then (bytes "signals") 1 32 CountOutOfRange 2 FromCycles (f .rest) t (f .goes) in
+    let c = count-then (bytes "cycles") 1 256 CountOutOfRange 3 (FromLoop (s .count)) (s .rest) t (s .goes) in
+    let l = line-then (isKey (bytes "loop")) (endingValue (c .count)) 4 (FromBody (s .count) (c .count)) (c .rest) t (c .goes) in
+    let n = ending-read (c .count) (l .text) (l .value) (l .stands) in
+    let b = body-says (s .count) (c .count) (l .value) (s .least) (s .most) (c .least) (c .most) (n .1) (l .rest) t (l .goes) in
+    let key : l .key ≡ bytes "loop" = same-eq (l .key) (bytes "loop") (l .named) in
+    together t file (f .rest) (s .rest) (c .rest) (l .rest) (l .key) (l .text) (f .count) (s .count) (c .count) (l .value) (f .least, f .most) key (n .0) (f .whole) (s .whole) (c .whole) (l .whole) b
+
+-- ---- a trace as its file
+
+-- what a written trace has behind each line
+abbrev AfterLoop : Trace → List ℕ
+AfterLoop t = writtenBody 99 digitsText 0 (cyclesOf t)
+
+abbrev AfterCycles : Trace → List ℕ
+AfterCycles t = writtenLine (bytes "loop") (endingText (t .ending)) (AfterLoop t)
+
+abbrev AfterSignals : Trace → List ℕ
+AfterSignals t = writtenLine (bytes "cycles") (decimal (t .cycles)) (AfterCycles t)
+
+abbrev AfterFormat : Trace → List ℕ
+AfterFormat t = writtenLine (bytes "signals") (decimal (t .signals)) (AfterSignals t)
+
+by-line : (t : Trace) → writtenTake t ≡ writtenLine (bytes "format") (decimal 1) (AfterFormat t)
+unfolding writtenTake
+by-line t = refl
+
+ending-length : (e : Ending) → length (endingText e) ≤ 5
+ending-length Open = omega arith
+ending-length (Loop n) = decimal-short n
+
+ending-step : (signals : ℕ) (cycles : ℕ) (ending : Ending) (body : List ℕ)
+    → FromLoop signals cycles (writtenLine (bytes "loop") (endingText ending) body) ≡ onParsed (endingValue cycles (endingText ending)) (λ e. refused e 4) (λ e. FromBody signals cycles e body)
+ending-step signals cycles ending body =
+    line-step (bytes "loop") (endingText ending) body (free 10 (bytes "loop") refl) (free 61 (bytes "loop") refl) (ending-free ending)
+    (isKey (bytes "loop")) (endingValue cycles) 4 (FromBody signals cycles) (same-refl (bytes "loop"))
+
+module _ (t : Trace) (full : length (t .lines) ≡ 32) where
+  digits-length : (k : ℕ) → k < length (cyclesOf t) → length (getD (cyclesOf t) k []) ≡ min (t .signals) 32
+  digits-length k h =
+      let f : ℕ → List Bool = λ c. map (λ (l : Line). bitAt l c) (take (t .signals) (t .lines)) in
+      let n : k < min (t .cycles) 256 = rw length-tabulate at h in
+      ap length (getD-tabulate (min (t .cycles) 256) f k [] n) ∙ (length-map (take (t .signals) (t .lines)) (λ (l : Line). bitAt l k) ∙ (length-take (t .signals) (t .lines) ∙ rw full))
+
+  cycles-length : length (cyclesOf t) ≡ min (t .cycles) 256
+  cycles-length = length-tabulate (min (t .cycles) 256) 0 (λ c. map (λ (l : Line). bitAt l c) (take (t .signals) (t .lines)))
+
+  short : length (writtenTake t) ≤ 65536
+  short =
+      let a : length (AfterLoop t) ≤ length (cyclesOf t) * 40 =
+      body-short 99 digitsText [] 32 (cyclesOf t) 0 (λ k h. rw (text-length, digits-length k h) (omega arith)) in
+      let b = line-length (bytes "loop") (endingText (t .ending)) (AfterLoop t) in
+      let c = count-short (bytes "cycles") (t .cycles) (AfterCycles t) (omega arith) in
+      let d = count-short (bytes "signals") (t .signals) (AfterSignals t) (omega arith) in
+      let e = count-short (bytes "format") 1 (AfterFormat t) (omega arith) in
+      rw by-line (omega (arith, cycles-length, ending-length (t .ending)))
+
+  from-signals : parseTake (writtenTake t) ≡ FromSignals 1 (AfterFormat t)
+  from-signals =
+      by-lines (writtenTake t) ∙ rw (le-ltb 65536 (length (writtenTake t)) short, by-line) (count-in (bytes "format") 1 1 WrongFormat 1 FromSignals refl refl 1 (AfterFormat t) (omega arith) (omega arith) (omega arith))
+
+  -- THE REFUSALS, in the order of the lines
+  module _ (h : t .signals < 100000) where
+    pub signals-below : t .signals < 1 → parseTake (writtenTake t) ≡ refused CountOutOfRange 2
+    signals-below l = from-signals ∙ count-below (bytes "signals") 1 32 CountOutOfRange 2 FromCycles refl refl (t .signals) (AfterSignals t) l h
+
+    pub signals-above : 32 < t .signals → parseTake (writtenTake t) ≡ refused CountOutOfRange 2
+    signals-above l = from-signals ∙ count-above (bytes "signals") 1 32 CountOutOfRange 2 FromCycles refl refl (t .signals) (AfterSignals t) (omega arith) l h
+
+  module _ (some-s : 1 ≤ t .signals) (most-s : t .signals ≤ 32) where
+    from-cycles : parseTake (writtenTake t) ≡ FromCycles (t .signals) (AfterSignals t)
+    from-cycles = from-signals ∙ count-in (bytes "signals") 1 32 CountOutOfRange 2 FromCycles refl refl (t .signals) (AfterSignals t) some-s most-s (omega arith)
+
+    module _ (h : t .cycles < 100000) where
+      pub cycles-below : t .cycles < 1 → parseTake (writtenTake t) ≡ refused CountOutOfRange 3
+      cycles-below l = from-cycles ∙ count-below (bytes "cycles") 1 256 CountOutOfRange 3 (FromLoop (t .signals)) refl refl (t .cycles) (AfterCycles t) l h
+
+      pub cycles-above : 256 < t .cycles → parseTake (writtenTake t) ≡ refused CountOutOfRange 3
+      cycles-above l = from-cycles ∙ count-above (bytes "cycles") 1 256 CountOutOfRange 3 (FromLoop (t .signals)) refl refl (t .cycles) (AfterCycles t) (omega arith) l h
+
+    module _ (some-c : 1 ≤ t .cycles) (most-c : t .cycles ≤ 256) where
+      from-loop : parseTake (writtenTake t) ≡ onParsed (endingValue (t .cycles) (endingText (t .ending))) (λ e. refused e 4) (λ e. FromBody (t .signals) (t .cycles) e (AfterLoop t))
+      from-loop =
+          from-cycles ∙ (count-in (bytes "cycles") 1 256 CountOutOfRange 3 (FromLoop (t .signals)) refl refl (t .cycles) (AfterCycles t) some-c most-c (omega arith)
+          ∙ ending-step (t .signals) (t .cycles) (t .ending) (AfterLoop t))
+
+      pub loop-beyond : isBelow (t .cycles) (t .ending) ≡ false → Below 65536 (t .ending) → parseTake (writtenTake t) ≡ refused BadLoop 4
+      loop-beyond n h = from-loop ∙ rw (beyond (t .ending) n h)
+        where
+          beyond : (e : Ending) → isBelow (t .cycles) e ≡ false → Below 65536 e → endingValue (t .cycles) (endingText e) ≡ bad BadLoop
+          beyond Open n h = clash (cc)
+          beyond (Loop m) n h = ending-outside (t .cycles) m (ltb-false m (t .cycles) n) (omega arith)
+
+      -- what is read of a trace in range: the same trace, but for the bits that it does not use
+      pub in-range : Below (t .cycles) (t .ending) → parseTake (writtenTake t) ≡ accepted (traceOf (t .signals) (t .cycles) (t .ending) (cyclesOf t))
+      in-range loop =
+          let n : length (cyclesOf t) ≡ t .cycles = cycles-length ∙ omega arith in
+          let each : (k : ℕ) → k < length (cyclesOf t) → length (getD (cyclesOf t) k []) ≡ t .signals = λ k h. digits-length k h ∙ omega arith in
+          let ok = all-ok (λ c ds. length ds ≡ t .signals) [] (cyclesOf t) 0 each in
+          let b : bodyLines 99 (λ c. digitsForm (t .signals)) (length (cyclesOf t)) 0 5 (AfterLoop t) ≡ accepted (cyclesOf t) =
+          body-written 99 (omega arith) (λ c. digitsForm (t .signals)) digitsText (λ c ds. length ds ≡ t .signals) (λ c ds h e. (digits-written (t .signals) ds e, digits-free ds)) (cyclesOf t) 0 5 (omega arith) ok in
+          from-loop ∙ rw (ending-written (t .cycles) (t .ending) most-c loop, rw n at b)
+
+-- A TRACE THAT IS WRITTEN IS READ BACK
+pub take-written : (t : Trace) → Valid t → parseTake (writtenTake t) ≡ accepted t
+take-written t v =
+    let full : length (t .lines) ≡ 32 = ap length (v .unused) ∙ length-tabulate 32 0 (λ s. lineOf (λ c. digit (cyclesOf t) c s)) in
+    in-range t full (v .range .some-signals) (v .range .most-signals) (v .range .some-cycles) (v .range .most-cycles) (v .range .loop)
+    ∙ ap (λ ls. accepted (record { signals = t .signals; cycles = t .cycles; ending = t .ending; lines = ls })) (sym (v .unused))
+
+-- TWO FILES THAT YIELD ONE TABLE ARE THE SAME
+pub take-once : (a b : List ℕ) (t : Trace) → parseTake a ≡ accepted t → parseTake b ≡ accepted t → a ≡ b
+take-once a b t p q = take-read a t p .0 ∙ sym (take-read b t q .0)
+
+accepted-range : (t x : Trace) → parseTake (writtenTake t) ≡ accepted x → InRange t
+unfolding writtenTake
+accepted-range t x e =
+    let a = test-accepted (ltb 65536 (length (writtenTake t))) TooLong 0 _ x (sym (by-lines (writtenTake t)) ∙ e) in
+    let f = count-range (bytes "format") 1 1 WrongFormat 1 FromSignals refl refl 1 (AfterFormat t) x a in
+    let s = count-range (bytes "signals") 1 32 CountOutOfRange 2 FromCycles refl refl (t .signals) (AfterSignals t) x (f .2) in
+    let c = count-range (bytes "cycles") 1 256 CountOutOfRange 3 (FromLoop (t .signals)) refl refl (t .cycles) (AfterCycles t) x (s .2) in
+    let l = parsed-accepted (endingValue (t .cycles) (endingText (t .ending))) 4 (λ e. FromBody (t .signals) (t .cycles) e (AfterLoop t)) x (sym (ending-step (t .signals) (t .cycles) (t .ending) (AfterLoop t)) ∙ c .2) in
+    let n = ending-range (t .cycles) (t .ending) (l .0) (l .1) in
+    record {
+      some-signals = s .0;
+      most-signals = s .1;
+      some-cycles = c .0;
+      most-cycles = c .1;
+      loop = subst (Below (t .cycles)) (sym (n .0)) (n .1);
+    }
+
+-- A TRACE THAT PASSES THE CHECK IS IN RANGE
+pub checked : (t : Trace) → outcomeOf 2 (parseTake (writtenTake t)) ≡ Accepted → InRange t
+checked t e =
+    let x = outcome-accepted 2 (parseTake (writtenTake t)) e in
+    accepted-range t (x .0) (x .1)
+
+-- and a trace in range passes it
+pub checked-all : (t : Trace) → length (t .lines) ≡ 32 → InRange t → outcomeOf 2 (parseTake (writtenTake t)) ≡ Accepted
+checked-all t full r = ap (outcomeOf 2) (in-range t full (r .some-signals) (r .most-signals) (r .some-cycles) (r .most-cycles) (r .loop))
