@@ -105,3 +105,7 @@ secondNumber (Constant c) = 0
 secondNumber (Signal c s) = 0
 secondNumber (Unary c a) = 0
 secondNumber (Binary c a b) = b
+
+-- the dual of a row: its partner under negation, with the same numbers
+unfoldable pub dualOf : Row → Row
+dualOf r = withNumbers (kindAt (kindAt (placeOf r) .partner) .row) (firstNumber r) (secondNumber r)

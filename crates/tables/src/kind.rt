@@ -1,7 +1,7 @@
 // The kinds of rows, once, as a table (01: "The words and their partners stand once as a table").
 ghost use mathlib.Core.Path.{_≡_};
 ghost use Prim.Native.Nat.{_<_};
-ghost use Rattle.tables.specs.Kind.{firstNumber, kindAt, numbersIn, secondNumber, withNumbers};
+ghost use Rattle.tables.specs.Kind.{binaryPlace, constantPlace, dualOf, firstNumber, kindAt, numbersIn, placeOf, secondNumber, signalPlace, unaryPlace, withNumbers};
 use crate::row::BinaryKind;
 use crate::row::ConstantKind;
 use crate::row::Row;
@@ -159,4 +159,68 @@ pub fn second_number(row: Row) -> u8
         Row::Unary(_, _) => 0,
         Row::Binary(_, _, b) => b,
     }
+}
+
+// The place of a row's kind in the table, shape by shape.
+fn constant_place(kind: ConstantKind) -> usize
+    ensures { λ r. ⌜ (r ≡ constantPlace kind) × (r < 14) ⌝ }
+{
+    match kind {
+        ConstantKind::True => 0,
+        ConstantKind::False => 1,
+    }
+}
+
+fn signal_place(kind: SignalKind) -> usize
+    ensures { λ r. ⌜ (r ≡ signalPlace kind) × (r < 14) ⌝ }
+{
+    match kind {
+        SignalKind::Sig => 2,
+        SignalKind::Nsig => 3,
+    }
+}
+
+fn unary_place(kind: UnaryKind) -> usize
+    ensures { λ r. ⌜ (r ≡ unaryPlace kind) × (r < 14) ⌝ }
+{
+    match kind {
+        UnaryKind::Not => 4,
+        UnaryKind::Next => 7,
+        UnaryKind::Always => 8,
+        UnaryKind::Ever => 9,
+    }
+}
+
+fn binary_place(kind: BinaryKind) -> usize
+    ensures { λ r. ⌜ (r ≡ binaryPlace kind) × (r < 14) ⌝ }
+{
+    match kind {
+        BinaryKind::And => 5,
+        BinaryKind::Or => 6,
+        BinaryKind::Weak => 10,
+        BinaryKind::Until => 11,
+        BinaryKind::Release => 12,
+        BinaryKind::Srelease => 13,
+    }
+}
+
+pub fn place_of(row: Row) -> usize
+    ensures { λ r. ⌜ (r ≡ placeOf row) × (r < 14) ⌝ }
+{
+    match row {
+        Row::Constant(kind) => constant_place(kind),
+        Row::Signal(kind, _) => signal_place(kind),
+        Row::Unary(kind, _) => unary_place(kind),
+        Row::Binary(kind, _, _) => binary_place(kind),
+    }
+}
+
+// The dual of a row: its partner under negation, with the same numbers.
+pub fn dual(row: Row) -> Row
+    ensures { λ r. ⌜ r ≡ dualOf row ⌝ }
+{
+    let kind = kind_at(place_of(row));
+    let partner = kind_at(kind.partner);
+    let other = partner.row;
+    with_numbers(other, first_number(row), second_number(row))
 }

@@ -48,3 +48,10 @@ pub struct Formula {
     pub rows: u8,
     pub places: [RowPlace; 64],
 }
+
+// A formula in negation normal form (01: a normal form): no `not` rows, and up to 128 of them; the unused places hold `true`.
+pub struct NormalForm {
+    pub signals: u8,
+    pub rows: u8,
+    pub places: [RowPlace; 128],
+}

@@ -1,0 +1,5 @@
+pub mod Reading
+pub mod Operator
+pub mod Trace
+pub mod Satisfaction
+pub mod Strong
