@@ -5,14 +5,14 @@ use mathlib.Core.Bool.{Bool, true, false}
 use mathlib.Core.List.{List, [], _∷_, _++_, map}
 use Prim.Native.Nat.{ℕ, zero, suc, _+_, _*_, _≤_, _<_}
 use native.Mathlib.Omega.{arith}
-use lib.Dec.{ltb, leb}
+use lib.Dec.{ltb}
 use lib.ListN.{length, getD, take, length-append, length-take, length-map}
-use borrow.Author.Tests.{le-ltb, leb-true}
+use borrow.Author.Tests.{le-ltb}
 use Rattle.tables.specs.Choice.{pick}
 use Rattle.tables.specs.Bytes.{bytes}
-use Rattle.tables.specs.Kind.{kinds, kindAt, wordOf, placeOf}
+use Rattle.tables.specs.Kind.{kindAt, wordOf, placeOf}
 use Rattle.tables.specs.Place.{placed}
-use Rattle.tables.proofs.KindTable.{below, kind-of-row}
+use Rattle.tables.proofs.KindTable.{word-short, kind-of-row}
 use Rattle.tables.proofs.Places.{length-tabulate, take-placed}
 use Rattle.tables.specs.declared.refusal.Outcome.the-variants.{Accepted}
 use Rattle.tables.specs.declared.refusal.Reason.the-variants.{TooLong, WrongFormat, CountOutOfRange}
@@ -38,10 +38,6 @@ use Rattle.rule_file.specs.Valid.{InRange, Valid}
 use Rattle.rule_file.proofs.WrittenRows.{Small, row-free, range-small, value-written, value-read}
 
 -- ---- a written rule is never too long
-
-word-short : (k : ℕ) → k < 14 → length (wordOf (kindAt k)) ≤ 8
-unfolding kindAt kinds
-word-short k h = leb-true _ _ (below (λ k. leb (length (wordOf (kindAt k))) 8) 14 refl k h)
 
 numbers-short : (r : Row) → length (numbersText r) ≤ 12
 numbers-short (Constant k) = omega arith

@@ -1,12 +1,11 @@
 -- The written form of a formula: its rule file. Assumes nothing.
 use Prim.Native.Nat.{ℕ}
-use mathlib.Core.List.{List, [], _∷_, _++_, map}
-use lib.ListN.{take}
+use mathlib.Core.List.{List, [], _∷_, _++_}
 use Rattle.tables.specs.Bytes.{bytes}
 use Rattle.tables.specs.Kind.{kindAt, wordOf, placeOf}
+use Rattle.tables.specs.Used.{usedRows}
 use Rattle.tables.specs.declared.row.Row.{Row}
 use Rattle.tables.specs.declared.row.Row.the-variants.{Constant, Signal, Unary, Binary}
-use Rattle.tables.specs.declared.row.RowPlace.{RowPlace}
 use Rattle.tables.specs.declared.row.Formula.{Formula}
 use Rattle.text.specs.Written.{decimal, writtenLine, writtenBody}
 
@@ -22,11 +21,15 @@ writtenRow r = wordOf (kindAt (placeOf r)) ++ numbersText r
 
 -- "unused places are not written"
 abbrev pub rowsOf : Formula → List Row
-rowsOf f = map (λ (p : RowPlace). p .row) (take (f .rows) (f .places))
+rowsOf f = usedRows (f .rows) (f .places)
+
+-- the lines of a rule file
+abbrev pub ruleText : ℕ → ℕ → List Row → List ℕ
+ruleText signals rows rs =
+    writtenLine (bytes "format") (decimal 1)
+    (writtenLine (bytes "signals") (decimal signals)
+    (writtenLine (bytes "rows") (decimal rows)
+    (writtenBody 114 writtenRow 1 rs)))
 
 unfoldable pub writtenRule : Formula → List ℕ
-writtenRule f =
-    writtenLine (bytes "format") (decimal 1)
-    (writtenLine (bytes "signals") (decimal (f .signals))
-    (writtenLine (bytes "rows") (decimal (f .rows))
-    (writtenBody 114 writtenRow 1 (rowsOf f))))
+writtenRule f = ruleText (f .signals) (f .rows) (rowsOf f)

@@ -23,6 +23,7 @@ use Rattle.sheet_file.specs.declared.sheet.SheetAnswer.{SheetAnswer}
 abbrev pub rowLine : List Bool → Line
 rowLine r = lineOf (λ c. getD r c false)
 
+-- what a sheet file stands for: its counts, and its rows as lines
 abbrev pub activationOf : ℕ → ℕ → List (List Bool) → Activation
 activationOf rows cycles rs = record { rows = rows; cycles = cycles; lines = placed 128 rowLine [] rs }
 

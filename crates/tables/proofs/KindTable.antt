@@ -7,7 +7,7 @@ use native.Mathlib.Decide.{decLt}
 use lib.ListN.{length}
 use lib.Dec.{eqb, leb}
 use borrow.Author.Tests.{eqb-true, leb-true}
-use Rattle.tables.specs.Kind.{kinds, kindAt, placeOf, withNumbers, numbersIn, firstNumber, secondNumber, constantPlace, signalPlace, unaryPlace, binaryPlace}
+use Rattle.tables.specs.Kind.{kinds, kindAt, wordOf, placeOf, withNumbers, numbersIn, firstNumber, secondNumber, constantPlace, signalPlace, unaryPlace, binaryPlace}
 use Rattle.tables.specs.declared.row.ConstantKind.{ConstantKind}
 use Rattle.tables.specs.declared.row.ConstantKind.the-variants.{True, False}
 use Rattle.tables.specs.declared.row.SignalKind.{SignalKind}
@@ -50,6 +50,11 @@ partner-below k h = leb-true _ _ (below (λ k. leb (suc (kindAt k .partner)) 14)
 pub word-fits : (k : ℕ) → k < 14 → kindAt k .length ≤ length (kindAt k .word)
 unfolding kindAt kinds
 word-fits k h = leb-true _ _ (below (λ k. leb (kindAt k .length) (length (kindAt k .word))) 14 refl k h)
+
+-- and has at most eight letters
+pub word-short : (k : ℕ) → k < 14 → length (wordOf (kindAt k)) ≤ 8
+unfolding kindAt kinds
+word-short k h = leb-true _ _ (below (λ k. leb (length (wordOf (kindAt k))) 8) 14 refl k h)
 
 -- a place of the table is that of its own row
 pub place-of-kind : (k : ℕ) → k < 14 → placeOf (kindAt k .row) ≡ k

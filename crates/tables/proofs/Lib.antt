@@ -2,3 +2,4 @@ pub mod Places
 pub mod Bits
 pub mod KindTable
 pub mod Marks
+pub mod UsedRows

@@ -4,3 +4,4 @@ pub mod Refusal
 pub mod Kind
 pub mod Place
 pub mod Bit
+pub mod Used

@@ -12,7 +12,7 @@ use Rattle.tables.specs.declared.trace.Line.{Line}
 abbrev pub lineAt : List Line → ℕ → Line
 lineAt lines s = getD lines s (record { words = [] })
 
--- "one digit 0 or 1 per signal": where digit s is 1 (byte 49), line s gets the bit of the cycle
+-- "one digit 0 or 1 per signal, signal 1 first": where digit s is 1 (byte 49), line s gets the bit of the cycle
 unfoldable pub cyclePut : List Line → List ℕ → ℕ → List Line
 cyclePut lines value cycle = tabulate 32 (λ s. pick (eqb (getD value s 0) 49) (marked (lineAt lines s) cycle) (lineAt lines s))
 

@@ -30,6 +30,7 @@ digit cycles c s = getD (getD cycles c []) s false
 abbrev pub linesOf : List (List Bool) → List Line
 linesOf cycles = tabulate 32 (λ s. lineOf (λ c. digit cycles c s))
 
+-- what a take file stands for: its counts, its ending, and its cycles as lines
 abbrev pub traceOf : ℕ → ℕ → Ending → List (List Bool) → Trace
 traceOf signals cycles ending cs = record { signals = signals; cycles = cycles; ending = ending; lines = linesOf cs }
 

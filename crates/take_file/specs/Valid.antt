@@ -14,6 +14,7 @@ abbrev pub isBelow : ℕ → Ending → Bool
 isBelow cycles Open = true
 isBelow cycles (Loop n) = ltb n cycles
 
+-- the same, as a fact
 abbrev pub Below : ℕ → Ending → Type 0
 Below cycles Open = Unit {0}
 Below cycles (Loop n) = n < cycles

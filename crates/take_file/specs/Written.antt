@@ -12,6 +12,7 @@ use Rattle.tables.specs.declared.trace.Line.{Line}
 use Rattle.tables.specs.declared.trace.Trace.{Trace}
 use Rattle.text.specs.Written.{decimal, writtenLine, writtenBody, digitsText}
 
+-- "`loop=` (`none`, or the cycle where the loop begins)"
 abbrev pub endingText : Ending → List ℕ
 endingText Open = bytes "none"
 endingText (Loop n) = decimal n
@@ -20,6 +21,7 @@ endingText (Loop n) = decimal n
 abbrev pub cyclesOf : Trace → List (List Bool)
 cyclesOf t = tabulate (min (t .cycles) 256) (λ c. map (λ (l : Line). bitAt l c) (take (t .signals) (t .lines)))
 
+-- "A table handed to a service is checked as if written out as its file"
 unfoldable pub writtenTake : Trace → List ℕ
 writtenTake t =
     writtenLine (bytes "format") (decimal 1)

@@ -54,6 +54,7 @@ fn read_cycles(body: &[u8], signals: usize, cycles: usize, ending: Ending) -> Ta
         let Digits::At(from, end) = text::digits::digits_line(rest, b'c', c, signals) else {
             return refuse(Reason::WrongForm, c + 5);
         };
+        // By a local of its own: the borrow checker does not cover a call whose result goes to an array that it was given.
         let more = crate::cycle::put_cycle(lines, &rest[from..end], c);
         lines = more;
         rest = &rest[end + 1..];

@@ -3,7 +3,6 @@ use Prim.Native.Nat.{_<_}
 use lib.ListN.{length}
 use Rattle.tables.specs.declared.trace.Activation.{Activation}
 use mathlib.Core.Path.{_∙_, ap, sym}
-use native.Mathlib.Omega.{arith}
 use lib.ListN.{length-map}
 use Rattle.text.specs.Result.{outcomeOf}
 use Rattle.sheet_file.proofs.Sheets.{rows-below, rows-above, cycles-below, cycles-above, in-range}

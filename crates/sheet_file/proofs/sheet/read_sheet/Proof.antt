@@ -1,3 +1,4 @@
+use native.Mathlib.Omega.{arith}
 use mathlib.Core.Path.{_∙_, ap}
 use lib.ListN.{length}
 use borrow.Author.Tests.{lt-ltb, le-ltb}
@@ -9,6 +10,10 @@ use Rattle.sheet_file.specs.Sheet.{parseSheet}
 use borrow.Author.Needs.{needs}
 use Rattle.sheet_file.proofs.sheet.read_sheet.Statement.{statement}
 use Rattle.sheet_file.proofs.sheet.read_sheet.Tie as tie
+
+-- The ranges come first: a count that the code lets through beyond its range fails here.
+read-rows-requires : tie.Need-read-rows-requires
+read-rows-requires c κs = (omega (arith, counted _ _ _ _ _ (c .before .before .before .before .before .before .before .before .before .before .count-line2 .ensures) (c .before .before .before .before .before .before .before .before .second .given .1) .1), omega (arith, counted _ _ _ _ _ (c .before .before .before .before .count-line3 .ensures) (c .before .before .third .given .1) .1))
 
 returns : tie.Need-returns
 unfolding parseSheet
@@ -43,9 +48,6 @@ sub-read-rows c = counted _ _ _ _ _ (c .before .before .before .count-line3 .ens
 
 part-read-rows-start : tie.Need-part-read-rows-start
 part-read-rows-start c = counted _ _ _ _ _ (c .before .before .before .count-line3 .ensures) (c .before .third .given .1) .2
-
-read-rows-requires : tie.Need-read-rows-requires
-read-rows-requires c κs = (counted _ _ _ _ _ (c .before .before .before .before .before .before .before .before .before .before .count-line2 .ensures) (c .before .before .before .before .before .before .before .before .second .given .1) .1, counted _ _ _ _ _ (c .before .before .before .before .count-line3 .ensures) (c .before .before .third .given .1) .1)
 
 returns-5 : tie.Need-returns-5
 unfolding parseSheet

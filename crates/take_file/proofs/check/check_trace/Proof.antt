@@ -3,7 +3,6 @@ use Prim.Native.Nat.{_<_}
 use lib.ListN.{length}
 use Rattle.tables.specs.declared.trace.Trace.{Trace}
 use mathlib.Core.Path.{_∙_, ap, sym}
-use native.Mathlib.Omega.{arith}
 use lib.ListN.{length-map}
 use borrow.Author.Tests.{not-true, not-false}
 use Rattle.text.specs.Result.{outcomeOf}

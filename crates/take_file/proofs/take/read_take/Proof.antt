@@ -1,3 +1,4 @@
+use native.Mathlib.Omega.{arith}
 use mathlib.Core.Path.{_∙_, ap}
 use lib.ListN.{length}
 use borrow.Author.Tests.{lt-ltb, le-ltb}
@@ -11,6 +12,13 @@ use Rattle.take_file.proofs.Endings.{ending-is, ending-wrong, ending-in
 use borrow.Author.Needs.{needs}
 use Rattle.take_file.proofs.take.read_take.Statement.{statement}
 use Rattle.take_file.proofs.take.read_take.Tie as tie
+
+-- The ranges come first: a count that the code lets through beyond its range fails here.
+ending-line-requires : tie.Need-ending-line-requires
+ending-line-requires c κs = omega (arith, counted _ _ _ _ _ (c .before .before .before .before .count-line3 .ensures) (c .before .before .third .given .1) .1)
+
+read-cycles-requires : tie.Need-read-cycles-requires
+read-cycles-requires c κs = (omega (arith, counted _ _ _ _ _ (c .before .before .before .before .before .before .before .before .before .before .before .before .before .before .before .count-line2 .ensures) (c .before .before .before .before .before .before .before .before .before .before .before .before .before .second .given .1) .1), omega (arith, counted _ _ _ _ _ (c .before .before .before .before .before .before .before .before .before .count-line3 .ensures) (c .before .before .before .before .before .before .before .third .given .1) .1))
 
 returns : tie.Need-returns
 unfolding parseTake
@@ -46,9 +54,6 @@ sub-after-cycles c = counted _ _ _ _ _ (c .before .before .before .count-line3 .
 part-after-cycles-start : tie.Need-part-after-cycles-start
 part-after-cycles-start c = counted _ _ _ _ _ (c .before .before .before .count-line3 .ensures) (c .before .third .given .1) .2
 
-ending-line-requires : tie.Need-ending-line-requires
-ending-line-requires c κs = counted _ _ _ _ _ (c .before .before .before .before .count-line3 .ensures) (c .before .before .third .given .1) .1
-
 returns-5 : tie.Need-returns-5
 unfolding parseTake
 returns-5 c = c .refuse5 .ensures ∙ rw (le-ltb _ _ (c .before .before .before .before .before .before .before .before .before .before .before .before .before .before .before .before .before .before .before .before .before .before .before .if1 .left), counted-is (c .before .before .before .before .before .before .before .before .before .before .before .before .before .before .before .before .before .before .before .before .before .count-line .ensures) (c .before .before .before .before .before .before .before .before .before .before .before .before .before .before .before .before .before .before .before .first .given .1), counted-is (rw rest-part at (c .before .before .before .before .before .before .before .before .before .before .before .before .before .before .before .count-line2 .ensures)) (c .before .before .before .before .before .before .before .before .before .before .before .before .before .second .given .1), counted-is (rw (rest-part, rest-part) at (c .before .before .before .before .before .before .before .before .before .count-line3 .ensures)) (c .before .before .before .before .before .before .before .third .given .1), ending-wrong (rw (rest-part, rest-part, rest-part) at (c .before .before .before .before .ending-line .ensures)) (c .before .before .enum-told4 .given .1), c .before .ending-reason .ensures ∙ ap endingReasonOf (c .before .before .enum-told4 .given .1))
@@ -58,9 +63,6 @@ sub-read-cycles c = ending-inside _ _ (c .before .before .before .ending-line .e
 
 part-read-cycles-start : tie.Need-part-read-cycles-start
 part-read-cycles-start c = ending-inside _ _ (c .before .before .before .ending-line .ensures) (c .before .fourth .given .1)
-
-read-cycles-requires : tie.Need-read-cycles-requires
-read-cycles-requires c κs = (counted _ _ _ _ _ (c .before .before .before .before .before .before .before .before .before .before .before .before .before .before .before .count-line2 .ensures) (c .before .before .before .before .before .before .before .before .before .before .before .before .before .second .given .1) .1, counted _ _ _ _ _ (c .before .before .before .before .before .before .before .before .before .count-line3 .ensures) (c .before .before .before .before .before .before .before .third .given .1) .1)
 
 returns-6 : tie.Need-returns-6
 unfolding parseTake

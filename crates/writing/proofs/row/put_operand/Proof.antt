@@ -1,0 +1,11 @@
+use native.Mathlib.Omega.{arith}
+use Rattle.writing.proofs.Texts.{wrote-both}
+use borrow.Author.Needs.{needs}
+use Rattle.writing.proofs.row.put_operand.Statement.{statement}
+use Rattle.writing.proofs.row.put_operand.Tie as tie
+
+returns : tie.Need-returns
+returns c = (wrote-both (c .before .before .before .before .before .before .put-byte .ensures) (c .before .before .put-number .ensures .0), omega (arith, c .before .before .before .before .before .before .put-byte .ensures .next))
+
+pub put-operand-spec : {M : Type 1} → statement M
+put-operand-spec = tie.close (tie.spec (λ c κs. search needs) (λ c κs. search needs) (λ c. search needs) returns)

@@ -1,0 +1,34 @@
+use mathlib.Core.Path.{_≡_, sym, ap}
+use Prim.Native.Nat.{_≤_}
+use native.Mathlib.Omega.{arith}
+use lib.ListN.{length, take}
+use lib.Seq.{length-take-le}
+use Rattle.tables.specs.Kind.{wordOf}
+use Rattle.tables.proofs.KindTable.{word-fits, word-short}
+use Rattle.writing.proofs.Texts.{wrote-is}
+use borrow.Author.Needs.{needs}
+use Rattle.writing.proofs.row.put_word.Statement.{statement}
+use Rattle.writing.proofs.row.put_word.Tie as tie
+
+array-share-prefix-bytes : tie.Need-array-share-prefix-bytes
+array-share-prefix-bytes c = rw (c .before .before .kind-at .ensures) (word-fits _ (c .before .before .before .before .pre .0))
+
+slice-aggregate-put : tie.Need-slice-aggregate-put
+slice-aggregate-put c = let h : c .before .before .before .kind-at .result .length ≤ length (c .before .before .before .kind-at .result .word) = rw (c .before .before .before .kind-at .ensures) (word-fits _ (c .before .before .before .before .before .pre .0)) in sym (length-take-le _ _ h)
+
+put-requires : tie.Need-put-requires
+put-requires c κs = let h : length (wordOf (c .before .before .before .kind-at .result)) ≤ 8 = rw (c .before .before .before .kind-at .ensures) (word-short _ (c .before .before .before .before .before .pre .0)) in omega (arith, c .before .before .before .before .before .pre .1)
+
+returns : tie.Need-returns
+returns c = let h : length (wordOf (c .before .before .before .before .before .before .kind-at .result)) ≤ 8 = rw (c .before .before .before .before .before .before .kind-at .ensures) (word-short _ (c .before .before .before .before .before .before .before .before .pre .0)) in (wrote-is (ap wordOf (c .before .before .before .before .before .before .kind-at .ensures)) (c .before .before .put .ensures), omega (arith, c .before .before .put .ensures .next))
+
+pub put-word-spec : {M : Type 1} → statement M
+put-word-spec =
+    tie.close
+    (tie.spec
+    (λ c κs. search needs)
+    array-share-prefix-bytes
+    slice-aggregate-put
+    put-requires
+    (λ c. search needs)
+    returns)

@@ -1,0 +1,4 @@
+// Texts into lent buffers: the pieces that every writing service is made of, and the file of a normal form.
+pub mod normal;
+pub mod put;
+pub mod row;

@@ -1,0 +1,66 @@
+// Bytes, numbers and whole texts.
+ghost use mathlib.Core.Path.{_≡_};
+ghost use mathlib.Core.List.{[], _∷_};
+ghost use Prim.Native.Nat.{_+_, _≤_, _<_};
+ghost use lib.Dec.{leb};
+ghost use lib.ListN.{length};
+ghost use Rattle.text.specs.Written.{decimal};
+ghost use Rattle.writing.specs.Lent.{Wrote, overlaid};
+
+// Puts a text into the buffer, and answers the place behind it.
+pub fn put(buf: &mut [u8], at: usize, text: &[u8]) -> usize
+    requires { ⌜ at + length (now text) ≤ length (now buf) ⌝ }
+    ensures { λ r. ⌜ Wrote (now (buf .entry)) at (now (text .entry)) (now (buf .exit)) r ⌝ }
+{
+    let mut i = 0;
+    while i < text.len() {
+        buf[at + i] = text[i];
+        i += 1;
+    }
+    at + i
+}
+
+pub fn put_byte(buf: &mut [u8], at: usize, b: u8) -> usize
+    requires { ⌜ at + 1 ≤ length (now buf) ⌝ }
+    ensures { λ r. ⌜ Wrote (now (buf .entry)) at (b ∷ []) (now (buf .exit)) r ⌝ }
+{
+    buf[at] = b;
+    at + 1
+}
+
+fn digit(n: u16) -> u8
+    requires { ⌜ n < 10 ⌝ }
+    ensures { λ r. ⌜ r ≡ 48 + n ⌝ }
+{
+    48 + n as u8
+}
+
+// A number of at most three digits.
+pub fn put_number(buf: &mut [u8], at: usize, n: u16) -> usize
+    requires { ⌜ (at + 3 ≤ length (now buf)) × (n < 1000) ⌝ }
+    ensures { λ r. ⌜ Wrote (now (buf .entry)) at (decimal n) (now (buf .exit)) r ⌝ }
+    ensures { λ r. ⌜ r ≤ at + 3 ⌝ }
+{
+    if n < 10 {
+        return put_byte(buf, at, digit(n));
+    }
+    let tens = n / 10;
+    if tens < 10 {
+        let b = put_byte(&mut *buf, at, digit(tens));
+        return put_byte(buf, b, digit(n % 10));
+    }
+    let b = put_byte(&mut *buf, at, digit(tens / 10));
+    let c = put_byte(&mut *buf, b, digit(tens % 10));
+    put_byte(buf, c, digit(n % 10))
+}
+
+// An output goes into the lent buffer whole, or not at all.
+pub fn deliver(text: &[u8], buf: &mut [u8]) -> bool
+    ensures { λ r. ⌜ (r ≡ leb (length (now (text .entry))) (length (now (buf .entry)))) × (now (buf .exit) ≡ overlaid (now (text .entry)) (now (buf .entry))) ⌝ }
+{
+    if buf.len() < text.len() {
+        return false;
+    }
+    put(buf, 0, text);
+    true
+}
