@@ -1,0 +1,24 @@
+use mathlib.Core.Path.{_∙_, sym}
+use Rattle.text.proofs.Searching.{know}
+use borrow.Author.Needs.{needs}
+use Rattle.normal_file.proofs.bound.Statement.{statement}
+use Rattle.normal_file.proofs.bound.Tie as tie
+
+returns : tie.Need-returns
+returns c = sym (rw (know (c .before .before .before .check-formula .ensures .0) (c .before .outcome .given .1)))
+
+returns-2 : tie.Need-returns-2
+returns-2 c = sym (rw (know (c .before .before .before .check-formula .ensures .0) (c .before .enum-told .given .1)))
+
+pub bound-spec : {M : Type 1} → statement M
+bound-spec =
+    tie.close
+    (tie.spec
+    (λ c κs. search needs)
+    (λ c. search needs)
+    (λ c. search needs)
+    (λ c. search needs)
+    (λ c. search needs)
+    (λ c. search needs)
+    returns
+    returns-2)

@@ -1,0 +1,9 @@
+pub mod Signs
+pub mod Operands
+pub mod Marking
+pub mod MarkLoop
+pub mod Reaching
+pub mod Listings
+pub mod NumberLoop
+pub mod Cases
+pub mod SameMeaning
