@@ -12,6 +12,7 @@ use Rattle.tables.specs.declared.row.Row.{Row}
 use Rattle.tables.specs.declared.row.Row.the-variants.{Constant, Signal, Unary, Binary}
 use Rattle.tables.specs.declared.row.RowPlace.{RowPlace}
 use Rattle.tables.specs.declared.row.Formula.{Formula}
+use Rattle.tables.specs.declared.row.NormalForm.{NormalForm}
 use Rattle.meaning.specs.Reading.{Reading, Either}
 use Rattle.meaning.specs.Operator as operator
 use Rattle.meaning.specs.Trace.{InfiniteTrace}
@@ -55,3 +56,7 @@ module _ (R : Reading) (w : InfiniteTrace) where
 -- "An endless take satisfies a rule when the rule's own root, as written, is true at cycle 0"
 abbrev pub Satisfies : Reading → InfiniteTrace → Formula → Type 0
 Satisfies R w f = RowTrue R w (tableOf (f .places)) (f .rows) 0
+
+-- and so for a normal form
+abbrev pub SatisfiesNormal : Reading → InfiniteTrace → NormalForm → Type 0
+SatisfiesNormal R w f = RowTrue R w (tableOf (f .places)) (f .rows) 0

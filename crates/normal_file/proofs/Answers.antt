@@ -1,21 +1,16 @@
 -- The answers of the services by their cases. Assumes nothing.
-use mathlib.Core.Path.{_≡_, refl, sym, ap, _∙_}
+use mathlib.Core.Path.{_≡_, sym}
 use mathlib.Core.Bool.{true, false}
 use mathlib.Core.List.{List}
-use Prim.Native.Nat.{ℕ, _+_, _*_, _≤_}
-use native.Mathlib.Omega.{arith}
+use Prim.Native.Nat.{ℕ}
 use lib.Dec.{leb}
 use lib.ListN.{length}
 use Rattle.tables.specs.declared.refusal.Refusal.{Refusal}
 use Rattle.tables.specs.declared.refusal.Outcome.the-variants.{Accepted, Refused}
 use Rattle.tables.specs.declared.row.Formula.{Formula}
-use Rattle.rule_file.specs.Valid.{InRange}
 use Rattle.normal_form.specs.declared.sign.Sign.{Sign}
-use Rattle.normal_form.specs.Reach.{reach}
-use Rattle.normal_form.specs.Numbering.{normalListing, normalForm}
-use Rattle.normal_form.proofs.Listings.{rows-few}
 use Rattle.writing.specs.Lent.{overlaid}
-use Rattle.normal_file.specs.Answer.{ownOutcome, output, tooShort, normalAnswer, normalLeft, boundAnswer}
+use Rattle.normal_file.specs.Answer.{ownOutcome, output, tooShort, normalAnswer, normalLeft}
 use Rattle.normal_file.specs.declared.Bytes.the-variants.{Count, Refused as BytesRefused}
 
 module _ (f : Formula) (s : Sign) (buf : List ℕ) where
@@ -35,8 +30,3 @@ module _ (f : Formula) (s : Sign) (buf : List ℕ) where
 
     pub written-left : overlaid t buf ≡ normalLeft f s buf
     written-left = sym (rw (e, ← q))
-
--- a normal form has at most two rows for each of the formula's
-pub rows-most : (f : Formula) (s : Sign) → normalForm f s .rows ≤ 2 * f .rows
-unfolding normalForm normalListing
-rows-most f s = rows-few (reach f s) (f .places) (2 * f .rows)

@@ -5,5 +5,9 @@ pub mod MarkLoop
 pub mod Reaching
 pub mod Listings
 pub mod NumberLoop
+pub mod Normality
+pub mod Ranges
+pub mod Uniqueness
 pub mod Cases
 pub mod SameMeaning
+pub mod Demand

@@ -49,6 +49,9 @@ not-row (Binary c a b) e = absurd (true≢false (sym e))
 pub not-operand : (r : Row) → isNot r ≡ true → OperandOf r (firstNumber r)
 not-operand r e = rw (not-row r e) refl
 
+pub not-only : (r : Row) → isNot r ≡ true → (x : ℕ) → OperandOf r x → x ≡ firstNumber r
+not-only r e x o = rw (not-row r e) at o
+
 -- ---- operands with other numbers
 
 pub operand-mapped : (g : ℕ → ℕ) (r : Row) (x : ℕ) → OperandOf (withOperands g r) x → (a : ℕ) × OperandOf r a × (x ≡ g a)

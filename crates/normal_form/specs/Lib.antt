@@ -4,3 +4,4 @@ pub mod Reach
 pub mod Numbering
 pub mod Reached
 pub mod Normal
+pub mod Form

@@ -64,6 +64,10 @@ normalListing f s = listing (reach f s) (f .places) (2 * f .rows)
 abbrev pub normalRows : Formula → Sign → List Row
 normalRows f s = normalListing f s .rows
 
+-- the number there of the row that stands for row k under sign s
+abbrev pub newNumber : Formula → Sign → ℕ → Sign → ℕ
+newNumber f sign k s = numberIn (normalListing f sign .numbers) k s
+
 unfoldable pub normalForm : Formula → Sign → NormalForm
 normalForm f s = record { signals = f .signals; rows = length (normalRows f s); places = placed 128 inPlace unused (normalRows f s) }
 

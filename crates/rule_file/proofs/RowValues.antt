@@ -8,7 +8,7 @@ use native.Mathlib.Omega.{arith}
 use lib.Dec.{leb, ltb, eqb}
 use borrow.Author.Tests.{leb-true, ltb-true, eq-eqb, ne-eqb}
 use Rattle.tables.specs.Choice.{pick}
-use Rattle.tables.specs.Kind.{kindAt, withNumbers, numbersIn}
+use Rattle.tables.specs.Kind.{kindAt, withNumbers, numbersIn, firstNumber, secondNumber}
 use Rattle.tables.specs.declared.refusal.Reason.{Reason}
 use Rattle.tables.specs.declared.refusal.Reason.the-variants.{WrongForm, BadReference}
 use Rattle.tables.specs.declared.row.Row.{Row}
@@ -71,3 +71,12 @@ module _ (signals number : ℕ) (hs : signals ≤ 32) (hn : number ≤ 64) where
   small-numbers (Binary k s t) a b e =
       let w = pick-both (isOperand number a) (isOperand number b) e in
       ap₂ (Binary k) (same-byte a (omega (arith, operand-below number a (w .0)))) (same-byte b (omega (arith, operand-below number b (w .1))))
+
+-- numbers in their ranges lie below any bound that the ranges lie below
+pub numbers-below : (signals number bound : ℕ) → signals < bound → number ≤ bound → (r : Row) → inRange signals number r ≡ true → (firstNumber r < bound) × (secondNumber r < bound)
+numbers-below signals number bound hs hn (Constant k) e = (omega arith, omega arith)
+numbers-below signals number bound hs hn (Signal k s) e = (omega (arith, signal-most signals s e), omega arith)
+numbers-below signals number bound hs hn (Unary k a) e = (omega (arith, operand-below number a e), omega arith)
+numbers-below signals number bound hs hn (Binary k a b) e =
+    let w = pick-both (isOperand number a) (isOperand number b) e in
+    (omega (arith, operand-below number a (w .0)), omega (arith, operand-below number b (w .1)))

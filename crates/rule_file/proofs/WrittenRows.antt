@@ -30,7 +30,7 @@ use Rattle.text.proofs.Lines.{Free, free-append, first-at, first-free, cut-fron
 use Rattle.text.proofs.Headers.{lacks, free}
 use Rattle.rule_file.specs.Row.{kindNamed, formOf, rowForm, isSignal, isOperand, inRange, rowValue}
 use Rattle.rule_file.specs.Written.{numbersText, writtenRow}
-use Rattle.rule_file.proofs.RowValues.{form-counted, signal-most, operand-below}
+use Rattle.rule_file.proofs.RowValues.{form-counted, numbers-below}
 
 -- ---- the words of the table, each by one test over the whole table
 
@@ -122,12 +122,7 @@ value-written signals number r h = rw (form-written r h)
 
 -- numbers in their ranges are small enough
 pub range-small : (signals number : ℕ) → signals ≤ 32 → number ≤ 100000 → (r : Row) → inRange signals number r ≡ true → Small r
-range-small signals number hs hn (Constant k) e = (omega arith, omega arith)
-range-small signals number hs hn (Signal k s) e = (omega (arith, signal-most signals s e), omega arith)
-range-small signals number hs hn (Unary k a) e = (omega (arith, operand-below number a e), omega arith)
-range-small signals number hs hn (Binary k a b) e =
-    let w = pick-both (isOperand number a) (isOperand number b) e in
-    (omega (arith, operand-below number a (w .0)), omega (arith, operand-below number b (w .1)))
+range-small signals number hs hn r e = numbers-below signals number 100000 (omega arith) hn r e
 
 -- ---- only what is written is read
 

@@ -5,9 +5,10 @@ use lib.ListN.{length}
 use lib.Seq.{length-take-le}
 use Rattle.tables.specs.declared.row.NormalForm.{NormalForm}
 use Rattle.text.proofs.Searching.{know}
+use Rattle.normal_form.proofs.Ranges.{form-normal}
 use Rattle.writing.specs.Normal.{writtenNormal}
 use Rattle.writing.proofs.Texts.{wrote-within, wrote-start}
-use Rattle.normal_file.proofs.Answers.{refused-answer, refused-left, written-answer, short-answer, written-left, rows-most}
+use Rattle.normal_file.proofs.Answers.{refused-answer, refused-left, written-answer, short-answer, written-left}
 use borrow.Author.Needs.{needs}
 use Rattle.normal_file.proofs.write_normal.Statement.{statement}
 use Rattle.normal_file.proofs.write_normal.Tie as tie
@@ -16,7 +17,7 @@ normal-form-requires : tie.Need-normal-form-requires
 normal-form-requires c κs = c .before .before .check-formula .ensures .1 (c .enum-told .given .1)
 
 put-normal-requires : tie.Need-put-normal-requires
-put-normal-requires c κs = let i = c .before .before .before .before .check-formula .ensures .1 (c .before .before .enum-told .given .1) in (rw (c .before .normal-form .ensures) (omega (arith, rows-most (c .before .before .before .before .before .before .args .formula) (c .before .before .before .before .before .before .args .sign), i .most-rows)), search needs)
+put-normal-requires c κs = let i = c .before .before .before .before .check-formula .ensures .1 (c .before .before .enum-told .given .1) in let a = c .before .before .before .before .before .before .args in (rw (c .before .normal-form .ensures) (form-normal (a .formula) (a .sign) i .most-rows), search needs)
 
 array-share-prefix-space : tie.Need-array-share-prefix-space
 array-share-prefix-space c = wrote-within _ _ _ _ (c .before .put-normal .ensures)

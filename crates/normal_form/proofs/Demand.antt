@@ -1,0 +1,59 @@
+-- DEMAND 2 ON THE NORMAL FORM: "The normal form negates signals only and is satisfied by the same takes." The first half is
+-- `form-normal` (Ranges.antt). Assumes nothing.
+use Prim.Native.Nat.{ℕ, suc, _≤_}
+use mathlib.Core.Path.{_≡_, subst}
+use mathlib.Core.Logic.{_↔_}
+use native.Mathlib.Omega.{arith}
+use lib.ListN.{length}
+use Rattle.tables.specs.declared.row.Formula.{Formula}
+use Rattle.rule_file.specs.Valid.{InRange}
+use Rattle.meaning.specs.Reading.{Reading, classical}
+use Rattle.meaning.specs.Trace.{InfiniteTrace}
+use Rattle.meaning.specs.Satisfaction.{Satisfies, SatisfiesNormal}
+use Rattle.meaning.proofs.Readings.{Full, classical-full}
+use Rattle.normal_form.specs.declared.sign.Sign.{Sign}
+use Rattle.normal_form.specs.declared.sign.Sign.the-variants.{Plain, Negated}
+use Rattle.normal_form.specs.Reached.{Reached.root}
+use Rattle.normal_form.specs.Numbering.{normalRows, normalListing, newNumber, normalForm}
+use Rattle.normal_form.proofs.Operands.{row-below}
+use Rattle.normal_form.proofs.Normality.{normal}
+use Rattle.normal_form.proofs.Ranges.{rows-most}
+use Rattle.normal_form.proofs.SameMeaning.{Under, implies, same-root}
+
+module _ (f : Formula) (range : InRange f) where
+  few : (s : Sign) → length (normalRows f s) ≤ 128
+  few s = let a = rows-most f s range in let b = range .most-rows in omega arith
+
+  module _ (R : Reading) (w : InfiniteTrace) where
+    -- in any reading, the normal form implies the rule, and that of the negation excludes it
+    normal-under : (s : Sign) → SatisfiesNormal R w (normalForm f s) → Under s (Satisfies R w f)
+    unfolding normalForm
+    normal-under s x =
+        let n = normal f s range in
+        implies f s (newNumber f s) (normalRows f s) n (few s) (row-below f range) (range .some-rows) R w (f .rows) s root 0 (rw (n .root-last) x)
+
+    pub normal-implies : SatisfiesNormal R w (normalForm f Plain) → Satisfies R w f
+    normal-implies = normal-under Plain
+
+    pub negated-excludes : SatisfiesNormal R w (normalForm f Negated) → ¬ Satisfies R w f
+    negated-excludes = normal-under Negated
+
+    -- in a full reading, both are exact
+    module _ (full : Full R) where
+      normal-exact : (s : Sign) → SatisfiesNormal R w (normalForm f s) ↔ Under s (Satisfies R w f)
+      unfolding normalForm
+      normal-exact s = same-root f s (newNumber f s) (normalRows f s) (normal f s range) (few s) (row-below f range) (range .some-rows) R w full 0
+
+      pub normal-same : SatisfiesNormal R w (normalForm f Plain) ↔ Satisfies R w f
+      normal-same = normal-exact Plain
+
+      pub negated-opposite : SatisfiesNormal R w (normalForm f Negated) ↔ (¬ Satisfies R w f)
+      negated-opposite = normal-exact Negated
+
+  -- THE CLAIM, in the reading of the claims and with no hypothesis left: an infinite trace satisfies the formula exactly when it
+  -- satisfies the normal form, and the negated formula's normal form exactly when it does not satisfy the formula
+  pub satisfied-alike : (w : InfiniteTrace) → SatisfiesNormal classical w (normalForm f Plain) ↔ Satisfies classical w f
+  satisfied-alike w = normal-same classical w classical-full
+
+  pub satisfied-opposite : (w : InfiniteTrace) → SatisfiesNormal classical w (normalForm f Negated) ↔ (¬ Satisfies classical w f)
+  satisfied-opposite w = negated-opposite classical w classical-full
