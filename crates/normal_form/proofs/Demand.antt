@@ -17,12 +17,12 @@ use Rattle.normal_form.specs.Reached.{Reached.root}
 use Rattle.normal_form.specs.Numbering.{normalRows, normalListing, newNumber, normalForm}
 use Rattle.normal_form.proofs.Operands.{row-below}
 use Rattle.normal_form.proofs.Normality.{normal}
-use Rattle.normal_form.proofs.Ranges.{rows-most}
+use Rattle.normal_form.proofs.Ranges.{rows-double}
 use Rattle.normal_form.proofs.SameMeaning.{Under, implies, same-root}
 
 module _ (f : Formula) (range : InRange f) where
   few : (s : Sign) → length (normalRows f s) ≤ 128
-  few s = let a = rows-most f s range in let b = range .most-rows in omega arith
+  few s = let a = rows-double f s range in let b = range .most-rows in omega arith
 
   module _ (R : Reading) (w : InfiniteTrace) where
     -- in any reading, the normal form implies the rule, and that of the negation excludes it

@@ -8,6 +8,7 @@ pub mod NumberLoop
 pub mod Normality
 pub mod Ranges
 pub mod Uniqueness
-pub mod Cases
+pub mod Sizes
 pub mod SameMeaning
 pub mod Demand
+pub mod Cases

@@ -2,7 +2,7 @@
 use mathlib.Core.Path.{_≡_, refl, sym, ap, _∙_}
 use mathlib.Core.Bool.{Bool, true, false}
 use mathlib.Core.List.{List, [], _∷_, _++_, append-assoc, append-nil}
-use Prim.Native.Nat.{ℕ, zero, suc, _+_, _*_, _-_, _/_, _≤_, _<_}
+use Prim.Native.Nat.{ℕ, zero, suc, _+_, _-_, _/_, _≤_, _<_}
 use native.Mathlib.Omega.{arith}
 use native.Mathlib.Decide.{decLt, le-ind}
 use lib.ListN.{length, getD, length-append, List·getD-append}
@@ -15,7 +15,7 @@ use Rattle.rule_file.specs.Rule.{unused}
 use Rattle.normal_form.specs.declared.sign.Sign.{Sign}
 use Rattle.normal_form.specs.Operand.{rowIn, isNot}
 use Rattle.normal_form.specs.Sign.{turned, signed, slotOf, signOf}
-use Rattle.normal_form.specs.Numbering.{Listing, numberIn, renumbered, snoc, skipped, shared, nextRow, listRow, listSlot, listing}
+use Rattle.normal_form.specs.Numbering.{Listing, numberIn, renumbered, snoc, skipped, shared, nextRow, listSlot, listing}
 
 pub length-snoc : {A : Type 0} (xs : List A) (x : A) → length (snoc xs x) ≡ length xs + 1
 length-snoc xs x = length-append xs (x ∷ [])
@@ -96,6 +96,10 @@ module _ (marks : List Bool) (ps : List RowPlace) where
   unfolding listing
   rows-few zero = omega arith
   rows-few (suc j) = let e = rows-few j in let h = slot-sizes (getD marks j false) (R j) (signOf j) (X j) .1 in omega arith
+
+  pub one-row-most : (j : ℕ) → length (X (suc j) .rows) ≤ length (X j .rows) + 1
+  unfolding listing
+  one-row-most j = slot-sizes (getD marks j false) (R j) (signOf j) (X j) .1
 
   -- the three kinds of slot
   pub slot-free : (j : ℕ) → getD marks j false ≡ false → X (suc j) ≡ skipped (X j)

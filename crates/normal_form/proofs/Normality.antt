@@ -1,14 +1,12 @@
 -- The listing of a formula in range is its normal form, as 01 words it. Assumes nothing.
-use mathlib.Core.Path.{_≡_, refl, sym, ap, subst⁻¹, _∙_}
+use mathlib.Core.Path.{_≡_, refl, sym, ap, _∙_}
 use mathlib.Core.Bool.{Bool, true, false}
 use mathlib.Core.List.{List}
 use Prim.Native.Nat.{ℕ, zero, suc, _+_, _*_, _-_, _/_, _≤_, _<_}
 use native.Mathlib.Omega.{arith}
 use lib.ListN.{length, getD}
 use Rattle.tables.specs.Kind.{firstNumber}
-use Rattle.tables.specs.declared.row.UnaryKind.the-variants.{Not}
 use Rattle.tables.specs.declared.row.Row.{Row}
-use Rattle.tables.specs.declared.row.Row.the-variants.{Unary}
 use Rattle.tables.specs.declared.row.Formula.{Formula}
 use Rattle.rule_file.specs.Rule.{unused}
 use Rattle.rule_file.specs.Valid.{InRange}
@@ -18,9 +16,9 @@ use Rattle.normal_form.specs.Sign.{turned, signed, operandSign, slotOf, 
 use Rattle.normal_form.specs.Reach.{reach}
 use Rattle.normal_form.specs.Numbering.{Listing, numberIn, listing, normalListing, normalRows, newNumber}
 use Rattle.normal_form.specs.Reached.{Reached, Reached.root, Reached.operand}
-use Rattle.normal_form.specs.Normal.{Listed, Before, rowAt, Normal}
+use Rattle.normal_form.specs.Normal.{Listed, rowAt, Normal}
 use Rattle.normal_form.proofs.Signs.{place-small, slot-half, slot-sign, slot-again, slot-before}
-use Rattle.normal_form.proofs.Operands.{not-row, not-operand, not-only, operand-mapped, same-mapped, alike-signed, alike-operand, row-below}
+use Rattle.normal_form.proofs.Operands.{not-operand, not-only, operand-mapped, same-mapped, alike-signed, alike-operand, row-below}
 use Rattle.normal_form.proofs.Reaching.{InMarks, reached-marked, slot-marked}
 use Rattle.normal_form.proofs.Listings.{number-stays, rows-more, grown, numbers-count, number-shared, number-own, one-row-more, row-inside, row-own, number-before, row-owner}
 

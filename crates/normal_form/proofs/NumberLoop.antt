@@ -1,24 +1,24 @@
 -- The loop that lists the rows: the code's tables hold the listing so far. Assumes nothing.
-use mathlib.Core.Path.{_≡_, refl, sym, ap, ap₂, _∙_}
+use mathlib.Core.Path.{_≡_, refl, sym, ap, _∙_}
 use mathlib.Core.Bool.{Bool, true, false}
-use mathlib.Core.List.{List, [], _∷_}
-use Prim.Native.Nat.{ℕ, zero, suc, _+_, _*_, _-_, _/_, _≤_, _<_}
+use mathlib.Core.List.{List, []}
+use Prim.Native.Nat.{ℕ, _+_, _-_, _/_, _≤_, _<_}
 use native.Mathlib.Numerals.{add-one}
 use native.Mathlib.Omega.{arith}
 use native.Mathlib.Decide.{ℕ-discrete}
 use lib.ListN.{length, getD, set, replicate, List·getD-eq-default}
 use lib.Seq.{getD-append-seam}
 use Rattle.tables.specs.Kind.{firstNumber}
-use Rattle.tables.specs.Place.{tabulateFrom, tabulate, placed}
+use Rattle.tables.specs.Place.{tabulateFrom, placed}
 use Rattle.tables.proofs.Places.{getD-tabulate, tabulate-ext, placed-more, snoc-other}
 use Rattle.tables.specs.declared.row.Row.{Row}
 use Rattle.tables.specs.declared.row.RowPlace.{RowPlace}
 use Rattle.rule_file.specs.Rule.{inPlace, unused}
 use Rattle.normal_form.specs.declared.sign.Sign.{Sign}
 use Rattle.normal_form.specs.declared.numbering.Numbering.{Numbering}
-use Rattle.normal_form.specs.Operand.{rowIn, isNot, OperandOf, Below}
+use Rattle.normal_form.specs.Operand.{rowIn, isNot, Below}
 use Rattle.normal_form.specs.Sign.{turned, signed, slotOf, signOf}
-use Rattle.normal_form.specs.Numbering.{Listing, numberIn, renumbered, snoc, skipped, shared, nextRow, listRow, listing, numberingOf}
+use Rattle.normal_form.specs.Numbering.{Listing, numberIn, renumbered, snoc, listRow, listing, numberingOf}
 use Rattle.normal_form.proofs.Signs.{place-small}
 use Rattle.normal_form.proofs.Operands.{alike-signed, alike-operand, same-mapped}
 use Rattle.normal_form.proofs.Listings.{length-snoc, rows-few, slot-free}

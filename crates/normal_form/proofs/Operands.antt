@@ -1,16 +1,13 @@
 -- Laws of rows by their operands. Assumes nothing.
 use mathlib.Core.Path.{_≡_, refl, sym, ap, ap₂, _∙_}
-use mathlib.Core.Bool.{Bool, true, false, true≢false}
-use mathlib.Core.List.{List}
-use mathlib.Core.Logic.{_⊎_, inl, inr}
+use mathlib.Core.Bool.{true, false, true≢false}
+use mathlib.Core.Logic.{inl, inr}
 use Prim.Native.Nat.{ℕ, _+_, _*_, _-_, _/_, _≤_, _<_}
 use native.Mathlib.Omega.{arith}
 use native.Mathlib.Decide.{decLt, ℕ-discrete}
-use lib.Dec.{eqb, ltb}
 use lib.ListN.{length, getD, take, List·getD-map, List·getD-eq-default}
 use lib.Seq.{getD-take}
-use borrow.Author.Tests.{eq-eqb, ne-eqb, eqb-false, lt-ltb, ltb-true}
-use Rattle.tables.specs.Choice.{pick}
+use borrow.Author.Tests.{eq-eqb, ne-eqb, lt-ltb, ltb-true}
 use Rattle.tables.specs.Kind.{kinds, kindAt, dualOf, firstNumber}
 use Rattle.tables.specs.declared.row.ConstantKind.{ConstantKind}
 use Rattle.tables.specs.declared.row.ConstantKind.the-variants.{True, False}
@@ -26,14 +23,14 @@ use Rattle.tables.specs.declared.row.RowPlace.{RowPlace}
 use Rattle.tables.specs.declared.row.Formula.{Formula}
 use Rattle.text.proofs.Elements.{ok-at}
 use Rattle.text.proofs.Searching.{pick-both}
-use Rattle.rule_file.specs.Row.{isOperand, isSignal, inRange}
+use Rattle.rule_file.specs.Row.{isOperand, inRange}
 use Rattle.rule_file.specs.Rule.{inPlace, unused}
 use Rattle.rule_file.specs.Valid.{InRange}
 use Rattle.rule_file.specs.Written.{rowsOf}
 use Rattle.normal_form.specs.declared.sign.Sign.{Sign}
 use Rattle.normal_form.specs.declared.sign.Sign.the-variants.{Plain, Negated}
 use Rattle.normal_form.specs.Operand.{rowIn, rowOf, isNot, OperandOf, Below, withOperands}
-use Rattle.normal_form.specs.Sign.{signed, operandSign}
+use Rattle.normal_form.specs.Sign.{signed}
 
 -- ---- `not` rows
 

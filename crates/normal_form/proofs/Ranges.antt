@@ -1,11 +1,10 @@
--- A normal form's rows are in range, none is `not`, and they are not too many. Assumes nothing.
-use mathlib.Core.Path.{_≡_, refl, sym, ap, _∙_}
+-- A normal form's rows are in range, none is `not`, and there are at most two for each row of the formula. Assumes nothing.
+use mathlib.Core.Path.{_≡_, ap, _∙_}
 use mathlib.Core.Bool.{true, false}
 use mathlib.Core.List.{List, map, map-map, map-id}
-use Prim.Native.Nat.{ℕ, _+_, _*_, _-_, _≤_, _<_}
+use Prim.Native.Nat.{ℕ, _+_, _*_, _-_, _≤_}
 use native.Mathlib.Omega.{arith}
-use lib.ListN.{length, getD, take}
-use Rattle.tables.specs.Place.{placed}
+use lib.ListN.{length}
 use Rattle.tables.proofs.Places.{take-placed}
 use Rattle.tables.specs.declared.row.Row.{Row}
 use Rattle.tables.specs.declared.row.RowPlace.{RowPlace}
@@ -19,7 +18,7 @@ use Rattle.normal_form.specs.declared.sign.Sign.{Sign}
 use Rattle.normal_form.specs.Operand.{rowOf, isNot, Below, withOperands}
 use Rattle.normal_form.specs.Sign.{signed}
 use Rattle.normal_form.specs.Reach.{reach}
-use Rattle.normal_form.specs.Numbering.{listing, normalListing, normalRows, newNumber, normalForm}
+use Rattle.normal_form.specs.Numbering.{normalListing, normalRows, normalForm}
 use Rattle.normal_form.specs.Normal.{Listed, rowAt, Normal}
 use Rattle.normal_form.specs.Form.{formRows, InNormalForm}
 use Rattle.normal_form.proofs.Operands.{not-mapped, alike-signed, alike-not, range-mapped, row-in-range}
@@ -48,9 +47,9 @@ module _ {f : Formula} {sign : Sign} {number : ℕ → Sign → ℕ} {rows : Lis
 
 module _ (f : Formula) (sign : Sign) (ok : InRange f) where
   -- at most two rows for each row of the formula
-  pub rows-most : length (normalRows f sign) ≤ 2 * f .rows
+  pub rows-double : length (normalRows f sign) ≤ 2 * f .rows
   unfolding normalListing
-  rows-most = rows-few (reach f sign) (f .places) (2 * f .rows)
+  rows-double = rows-few (reach f sign) (f .places) (2 * f .rows)
 
   pub normal-ranges : EachAt (λ k r. inRange (f .signals) k r ≡ true) 1 (normalRows f sign)
   normal-ranges = rows-in-range ok (normal f sign ok)
@@ -62,7 +61,7 @@ module _ (f : Formula) (sign : Sign) (ok : InRange f) where
   pub form-rows : formRows (normalForm f sign) ≡ normalRows f sign
   unfolding normalForm
   form-rows =
-      let h : length (normalRows f sign) ≤ 128 = omega (arith, rows-most, ok .most-rows) in
+      let h : length (normalRows f sign) ≤ 128 = omega (arith, rows-double, ok .most-rows) in
       ap (map (λ (p : RowPlace). p .row)) (take-placed 128 inPlace unused (normalRows f sign) h)
       ∙ (map-map (λ (p : RowPlace). p .row) inPlace (normalRows f sign) ∙ map-id (normalRows f sign))
 
@@ -73,7 +72,7 @@ module _ (f : Formula) (sign : Sign) (ok : InRange f) where
     some-signals = ok .some-signals;
     most-signals = ok .most-signals;
     some-rows = rows-some f sign ok;
-    most-rows = omega (arith, rows-most, ok .most-rows);
+    most-rows = omega (arith, rows-double, ok .most-rows);
     rows-in-range = rw form-rows normal-ranges;
     no-not = rw form-rows normal-no-not;
   }

@@ -1,23 +1,23 @@
 -- The downward pass marks exactly the slots that the root reaches. Assumes nothing.
-use mathlib.Core.Path.{_≡_, refl, sym, ap, subst, subst₂, _∙_}
+use mathlib.Core.Path.{_≡_, refl, sym, ap, subst₂, _∙_}
 use mathlib.Core.Logic.{_⊎_, inl, inr, _↔_}
 use mathlib.Core.Bool.{Bool, true, false, true≢false}
 use mathlib.Core.List.{List}
 use Prim.Native.Nat.{ℕ, zero, suc, _+_, _*_, _-_, _/_, _≤_, _<_}
 use native.Mathlib.Omega.{arith}
 use native.Mathlib.Decide.{ℕ-discrete}
-use lib.ListN.{length, getD, set, length-set, length-replicate}
+use lib.ListN.{length, getD, length-set, length-replicate}
 use lib.Seq.{getD-set-same}
 use Rattle.tables.specs.Choice.{pick}
 use Rattle.tables.specs.declared.row.Row.{Row}
 use Rattle.tables.specs.declared.row.Formula.{Formula}
 use Rattle.rule_file.specs.Valid.{InRange}
 use Rattle.normal_form.specs.declared.sign.Sign.{Sign}
-use Rattle.normal_form.specs.Operand.{rowIn, rowOf, OperandOf, Below}
+use Rattle.normal_form.specs.Operand.{rowIn, rowOf, OperandOf}
 use Rattle.normal_form.specs.Sign.{operandSign, slotOf, signOf}
 use Rattle.normal_form.specs.Reach.{mark, operandsMarked, markedDown, noMarks, reach}
 use Rattle.normal_form.specs.Reached.{Reached, Reached.root, Reached.operand}
-use Rattle.normal_form.proofs.Signs.{place-small, slot-half, slot-sign, slot-again}
+use Rattle.normal_form.proofs.Signs.{place-small, slot-half, slot-sign}
 use Rattle.normal_form.proofs.Operands.{row-below, slot-row-below, slot-row-fits}
 use Rattle.normal_form.proofs.Marking.{Marked, first-mark, marked-was, marked-size, marked-stays, operand-marked}
 

@@ -1,19 +1,14 @@
 -- Laws of signs and slots. Assumes nothing.
 use mathlib.Core.Path.{_≡_, refl, sym, ap, _∙_}
-use mathlib.Core.Logic.{_⊎_, inl, inr}
-use Prim.Native.Nat.{ℕ, _+_, _*_, _-_, _/_, _%_, _≤_, _<_}
+use mathlib.Core.Logic.{inl, inr}
+use Prim.Native.Nat.{ℕ, _+_, _-_, _/_, _%_, _≤_, _<_}
 use native.Mathlib.Omega.{arith}
 use native.Mathlib.Decide.{ℕ-discrete}
-use lib.Dec.{eqb}
 use borrow.Author.Tests.{eq-eqb, ne-eqb}
 use Rattle.normal_form.specs.declared.sign.Sign.{Sign}
 use Rattle.normal_form.specs.declared.sign.Sign.the-variants.{Plain, Negated}
-use Rattle.normal_form.specs.Sign.{turned, place, slotOf, signOf}
+use Rattle.normal_form.specs.Sign.{place, slotOf, signOf}
 use Rattle.normal_form.specs.Normal.{Before}
-
-pub turned-twice : (s : Sign) → turned (turned s) ≡ s
-turned-twice Plain = refl
-turned-twice Negated = refl
 
 pub place-small : (s : Sign) → place s < 2
 place-small Plain = omega arith

@@ -1,11 +1,11 @@
 -- 01's words decide the normal form: two tables that satisfy them are equal. Assumes nothing.
-use mathlib.Core.Path.{_≡_, refl, sym, ap, _∙_}
+use mathlib.Core.Path.{_≡_, refl, sym, _∙_}
 use mathlib.Core.Bool.{Bool, true, false}
 use mathlib.Core.List.{List}
-use Prim.Native.Nat.{ℕ, zero, suc, _+_, _-_, _≤_, _<_}
+use Prim.Native.Nat.{ℕ, zero, suc, _-_, _≤_, _<_}
 use native.Mathlib.Omega.{arith}
 use native.Mathlib.Decide.{decLt, ℕ-discrete}
-use lib.ListN.{length, getD}
+use lib.ListN.{length}
 use lib.Seq.{ext-getD}
 use Rattle.tables.specs.Kind.{firstNumber}
 use Rattle.tables.specs.declared.row.Row.{Row}
@@ -13,9 +13,9 @@ use Rattle.tables.specs.declared.row.Formula.{Formula}
 use Rattle.rule_file.specs.Rule.{unused}
 use Rattle.rule_file.specs.Valid.{InRange}
 use Rattle.normal_form.specs.declared.sign.Sign.{Sign}
-use Rattle.normal_form.specs.Operand.{rowOf, isNot, OperandOf}
+use Rattle.normal_form.specs.Operand.{rowOf, isNot}
 use Rattle.normal_form.specs.Sign.{turned, signed, slotOf}
-use Rattle.normal_form.specs.Numbering.{normalRows, newNumber}
+use Rattle.normal_form.specs.Numbering.{normalRows}
 use Rattle.normal_form.specs.Reached.{Reached, Reached.root}
 use Rattle.normal_form.specs.Normal.{Listed, Before, rowAt, Normal}
 use Rattle.normal_form.proofs.Signs.{slot-same, before-slot}

@@ -1,6 +1,6 @@
 // The rows of the normal form, listed in one pass over the slots.
 ghost use mathlib.Core.Path.{_≡_};
-ghost use Prim.Native.Nat.{_*_, _≤_, _<_};
+ghost use Prim.Native.Nat.{_*_, _<_};
 ghost use lib.ListN.{length};
 ghost use Rattle.rule_file.specs.Valid.{InRange};
 ghost use Rattle.normal_form.specs.Operand.{Below};

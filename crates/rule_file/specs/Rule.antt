@@ -30,15 +30,18 @@ unused = Constant True
 abbrev pub formulaOf : ℕ → ℕ → List Row → Formula
 formulaOf signals rows rs = record { signals = signals; rows = rows; places = placed 64 inPlace unused rs }
 
--- "Rule file: `format=1`, `signals=` (1 to 32), `rows=` (1 to 64), then `r1=` to the last row"; 114 is the letter r.
+-- The lines of a rule file, up to `most` rows; 114 is the letter r.
+abbrev pub ruleLines : {A : Type 0} → ℕ → (ℕ → ℕ → List Row → A) → List ℕ → Result A
+ruleLines most table file =
+    onLine 1 (keyedLine (isKey (bytes "format")) (countForm 1 1 WrongFormat)) file λ one after-format.
+    onLine 2 (keyedLine (isKey (bytes "signals")) (countForm 1 32 CountOutOfRange)) after-format λ signals after-signals.
+    onLine 3 (keyedLine (isKey (bytes "rows")) (countForm 1 most CountOutOfRange)) after-signals λ rows body.
+    mapResult (table signals rows) (bodyLines 114 (rowValue signals) rows 1 4 body)
+
+-- "Rule file: `format=1`, `signals=` (1 to 32), `rows=` (1 to 64), then `r1=` to the last row."
 -- "The file is longer than 65,536 bytes" is refused at line 0.
 unfoldable pub parseRule : List ℕ → Result Formula
-parseRule file =
-    pick (ltb 65536 (length file)) (refused TooLong 0)
-    (onLine 1 (keyedLine (isKey (bytes "format")) (countForm 1 1 WrongFormat)) file λ one after-format.
-    onLine 2 (keyedLine (isKey (bytes "signals")) (countForm 1 32 CountOutOfRange)) after-format λ signals after-signals.
-    onLine 3 (keyedLine (isKey (bytes "rows")) (countForm 1 64 CountOutOfRange)) after-signals λ rows body.
-    mapResult (formulaOf signals rows) (bodyLines 114 (rowValue signals) rows 1 4 body))
+parseRule file = pick (ltb 65536 (length file)) (refused TooLong 0) (ruleLines 64 formulaOf file)
 
 -- the code's answer: the rule is file 1
 abbrev pub ruleAnswer : Result Formula → RuleAnswer

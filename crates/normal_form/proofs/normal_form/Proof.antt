@@ -1,4 +1,3 @@
-use mathlib.Core.Path.{sym, ap, _∙_}
 use Rattle.normal_form.specs.Numbering.{normalListing, normalForm, numberingOf}
 use borrow.Author.Needs.{needs}
 use Rattle.normal_form.proofs.normal_form.Statement.{statement}

@@ -1,7 +1,5 @@
-use mathlib.Core.Path.{sym, ap, _∙_}
+use mathlib.Core.Path.{sym, _∙_}
 use native.Mathlib.Omega.{arith}
-use Rattle.normal_form.specs.Operand.{isNot}
-use Rattle.normal_form.specs.Sign.{slotOf}
 use Rattle.tables.specs.Kind.{firstNumber}
 use Rattle.normal_form.proofs.Operands.{not-operand, alike-signed, alike-operand}
 use Rattle.normal_form.proofs.NumberLoop.{table-shared, table-own}

@@ -1,6 +1,6 @@
-use mathlib.Core.Path.{_≡_, sym, ap, subst⁻¹, _∙_}
+use mathlib.Core.Path.{_∙_}
 use mathlib.Core.Logic.{⊎-elim}
-use Prim.Native.Nat.{_*_, _-_, _+_, _/_, _<_}
+use Prim.Native.Nat.{_-_}
 use native.Mathlib.Omega.{arith}
 use Rattle.normal_form.specs.Numbering.{listing}
 use Rattle.normal_form.proofs.Operands.{slot-row-fits}

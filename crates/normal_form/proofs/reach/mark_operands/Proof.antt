@@ -1,10 +1,7 @@
-use mathlib.Core.Path.{_≡_, sym, ap, ap₂, subst, _∙_}
-use mathlib.Core.Bool.{true}
+use mathlib.Core.Path.{subst}
 use mathlib.Core.Logic.{inl, inr}
 use native.Mathlib.Omega.{arith}
-use lib.ListN.{set}
 use Rattle.normal_form.specs.Operand.{Below}
-use Rattle.normal_form.specs.Sign.{slotOf, operandSign}
 use mathlib.Core.Path.{refl}
 use borrow.Author.Needs.{needs}
 use Rattle.normal_form.proofs.reach.mark_operands.Statement.{statement}

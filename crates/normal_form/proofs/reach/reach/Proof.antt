@@ -1,11 +1,9 @@
-use mathlib.Core.Path.{_≡_, sym, ap, subst, _∙_}
+use mathlib.Core.Path.{ap, _∙_}
 use mathlib.Core.Bool.{true}
-use Prim.Native.Nat.{_*_, _-_, _+_, _/_, _≤_}
+use Prim.Native.Nat.{_*_, _-_}
 use native.Mathlib.Omega.{arith}
-use lib.ListN.{set, replicate}
-use Rattle.normal_form.specs.Operand.{rowIn, rowOf, Below}
-use Rattle.normal_form.specs.Sign.{slotOf, signOf}
-use Rattle.normal_form.specs.Reach.{operandsMarked, markedDown, noMarks, reach}
+use lib.ListN.{set}
+use Rattle.normal_form.specs.Reach.{markedDown, noMarks, reach}
 use Rattle.normal_form.proofs.Operands.{slot-row-fits}
 use Rattle.normal_form.proofs.MarkLoop.{DownAt, down-start, down-marked, down-free, down-end}
 use borrow.Author.Needs.{needs}

@@ -1,4 +1,4 @@
-use mathlib.Core.Path.{ap, sym}
+use mathlib.Core.Path.{ap}
 use native.Mathlib.Omega.{arith}
 use Rattle.normal_form.specs.Sign.{place}
 use borrow.Author.Needs.{needs}
