@@ -32,8 +32,8 @@ use Rattle.text.proofs.Bodies.{BodyOf, body-written, body-read}
 use Rattle.text.proofs.Headers.{count-then, count-in, count-below, count-above, count-range, map-accepted, test-accepted, outcome-accepted}
 use Rattle.text.proofs.Elements.{decimal-short, count-short, body-short}
 use Rattle.rule_file.specs.Row.{inRange, rowValue}
-use Rattle.rule_file.specs.Rule.{inPlace, unused, formulaOf, parseRule}
-use Rattle.rule_file.specs.Written.{numbersText, writtenRow, rowsOf, writtenRule}
+use Rattle.rule_file.specs.Rule.{inPlace, unused, formulaOf, ruleLines, parseRule}
+use Rattle.rule_file.specs.Written.{numbersText, writtenRow, rowsOf, ruleText, writtenRule}
 use Rattle.rule_file.specs.Valid.{InRange, Valid}
 use Rattle.rule_file.proofs.WrittenRows.{Small, row-free, range-small, value-written, value-read}
 
@@ -125,16 +125,33 @@ row-reads signals hs k r h e =
     let s : Small r = range-small signals k hs (omega arith) r e in
     (value-written signals k r s ∙ rw e, row-free r s)
 
+-- rows in range, written as a rule file, are read back
+pub text-read : {A : Type 0} (most : ℕ) (table : ℕ → ℕ → List Row → A) (signals rows : ℕ) (rs : List Row) → most ≤ 1000
+    → 1 ≤ signals → signals ≤ 32 → 1 ≤ rows → rows ≤ most → length rs ≡ rows → EachAt (RowOk signals) 1 rs
+    → ruleLines most table (ruleText signals rows rs) ≡ accepted (table signals rows rs)
+text-read {A} most table signals rows rs small s₁ s₂ m₁ m₂ n ok =
+    let body : List ℕ = writtenBody 114 writtenRow 1 rs in
+    let rows-line : List ℕ = writtenLine (bytes "rows") (decimal rows) body in
+    let behind-rows : ℕ → ℕ → List ℕ → Result A = λ signals rows rest. mapResult (table signals rows) (bodyLines 114 (rowValue signals) rows 1 4 rest) in
+    let behind-signals : ℕ → List ℕ → Result A = λ signals rest. onLine 3 (keyedLine (isKey (bytes "rows")) (countForm 1 most CountOutOfRange)) rest (behind-rows signals) in
+    let behind-format : ℕ → List ℕ → Result A = λ one rest. onLine 2 (keyedLine (isKey (bytes "signals")) (countForm 1 32 CountOutOfRange)) rest behind-signals in
+    let b : bodyLines 114 (rowValue signals) (length rs) 1 4 body ≡ accepted rs =
+    body-written 114 (omega arith) (rowValue signals) writtenRow (RowOk signals) (row-reads signals s₂) rs 1 4 (omega arith) ok in
+    count-in (bytes "format") 1 1 WrongFormat 1 behind-format refl refl 1 (writtenLine (bytes "signals") (decimal signals) rows-line) (omega arith) (omega arith) (omega arith)
+    ∙ (count-in (bytes "signals") 1 32 CountOutOfRange 2 behind-signals refl refl signals rows-line s₁ s₂ (omega arith)
+    ∙ (count-in (bytes "rows") 1 most CountOutOfRange 3 (behind-rows signals) refl refl rows body m₁ m₂ (omega arith)
+    ∙ ap (mapResult (table signals rows)) (rw n at b)))
+
 -- A FORMULA THAT IS WRITTEN IS READ BACK
 pub rule-written : (f : Formula) → Valid f → parseRule (writtenRule f) ≡ accepted f
+unfolding parseRule writtenRule
 rule-written f v =
     let i : InRange f = v .in-range in
     let l : length (f .places) ≡ 64 = ap length (v .unused-true) ∙ length-tabulate 64 0 _ in
     let n : length (rowsOf f) ≡ f .rows = length-map (take (f .rows) (f .places)) _ ∙ (length-take (f .rows) (f .places) ∙ rw l (omega (arith, i .most-rows))) in
-    let b : bodyLines 114 (rowValue (f .signals)) (length (rowsOf f)) 1 4 (writtenBody 114 writtenRow 1 (rowsOf f)) ≡ accepted (rowsOf f) =
-    body-written 114 (omega arith) (rowValue (f .signals)) writtenRow (RowOk (f .signals)) (row-reads (f .signals) (i .most-signals)) (rowsOf f) 1 4 (omega (arith, i .most-rows)) (i .rows-in-range) in
-    after-rows f (used-most f l) (omega (arith, i .most-signals)) (omega (arith, i .most-rows)) (i .some-signals) (i .most-signals) (i .some-rows) (i .most-rows)
-    ∙ (rw (rw n at b) (ap (λ ps. accepted (record { signals = f .signals; rows = f .rows; places = ps })) (sym (v .unused-true))))
+    rw (le-ltb 65536 (length (writtenRule f)) (rule-short f (used-most f l)))
+    (text-read 64 formulaOf (f .signals) (f .rows) (rowsOf f) (omega arith) (i .some-signals) (i .most-signals) (i .some-rows) (i .most-rows) n (i .rows-in-range)
+    ∙ ap (λ ps. accepted (record { signals = f .signals; rows = f .rows; places = ps })) (sym (v .unused-true)))
 
 rows-in-places : (rs : List Row) → map (λ (p : RowPlace). p .row) (map inPlace rs) ≡ rs
 rows-in-places [] = refl
