@@ -1,8 +1,8 @@
 use native.Mathlib.Omega.{arith}
 use lib.ListN.{length-take}
 use borrow.Author.Needs.{needs}
-use Rattle.normal.proofs.print_text.Statement.{statement}
-use Rattle.normal.proofs.print_text.Tie as tie
+use Rattle.printing.proofs.print_text.Statement.{statement}
+use Rattle.printing.proofs.print_text.Tie as tie
 
 slice-aggregate-write-all : tie.Need-slice-aggregate-write-all
 slice-aggregate-write-all c = simp length-take (omega arith)

@@ -1,0 +1,51 @@
+-- The kinds of cases, and what a case says: the answers are those of the services' contracts. Assumes nothing.
+use Prim.Native.Nat.{ℕ}
+use Prim.Native.String.{String}
+use mathlib.Core.Path.{_≡_}
+use mathlib.Core.List.{List, [], _∷_, _++_}
+use Rattle.tables.specs.Bytes.{bytes}
+use Rattle.tables.specs.declared.row.Formula.{Formula}
+use Rattle.text.specs.Result.{Result}
+use Rattle.text.specs.Result.Result.{accepted, refused}
+use Rattle.rule_file.specs.Rule.{parseRule}
+use Rattle.normal_form.specs.declared.sign.Sign.{Sign}
+use Rattle.writing.specs.Lent.{overlaid}
+use Rattle.normal_file.specs.declared.Bytes.the-variants.{Count}
+use Rattle.normal_file.specs.Answer.{writtenAnswer, normalAnswer, normalLeft, boundAnswer}
+
+-- a file, by its lines
+abbrev pub File : Type 0
+File = List String
+
+-- its bytes: a line feed (byte 10) ends each line
+abbrev pub fileBytes : File → List ℕ
+fileBytes [] = []
+fileBytes (l ∷ ls) = bytes l ++ (10 ∷ fileBytes ls)
+
+-- the first file is that of a rule
+pub data Case : Type 0 where
+  -- the file of its normal form, or of its negation's
+  normal-form : File → Sign → File → Case
+  -- the bound on that file's length
+  bound : File → ℕ → Case
+
+-- accepted, and what was read is so
+abbrev pub AcceptedAs : {A : Type 0} → (A → Type 0) → Result A → Type 0
+AcceptedAs P (accepted x) = P x
+AcceptedAs P (refused e n) = ⊥
+
+-- the file is that of a formula, and the formula is so
+abbrev pub OnRule : File → (Formula → Type 0) → Type 0
+OnRule rule P = AcceptedAs P (parseRule (fileBytes rule))
+
+-- the service's answer, and what it leaves in the buffer, are those of the output `out`
+abbrev pub Writes : Formula → Sign → List ℕ → Type 0
+Writes f s out = (buf : List ℕ) → (normalAnswer f s buf ≡ writtenAnswer out buf) × (normalLeft f s buf ≡ overlaid out buf)
+
+abbrev pub Says : Case → Type 0
+Says (normal-form rule s out) = OnRule rule (λ f. Writes f s (fileBytes out))
+Says (bound rule n) = OnRule rule (λ f. boundAnswer f ≡ Count n)
+
+abbrev pub Each : {A : Type 0} → (A → Type 0) → List A → Type 0
+Each P [] = Unit {0}
+Each P (x ∷ xs) = P x × Each P xs
