@@ -1,5 +1,5 @@
 -- The downward pass marks exactly the slots that the root reaches. Assumes nothing.
-use mathlib.Core.Path.{_≡_, refl, sym, ap, subst₂, _∙_}
+use mathlib.Core.Path.{_≡_, refl, sym, ap, subst, subst₂, _∙_}
 use mathlib.Core.Logic.{_⊎_, inl, inr, _↔_}
 use mathlib.Core.Bool.{Bool, true, false, true≢false}
 use mathlib.Core.List.{List}
@@ -60,7 +60,7 @@ module _ (f : Formula) (sign : Sign) (ok : InRange f) where
       stays = marked-stays m (g .size) (signOf j) (R j) (slot-row-fits f ok j h)
 
       found : (i : ℕ) → ((a : ℕ) × OperandOf (R j) a × (i ≡ slotOf a (operandSign (R j) (signOf j)))) ⊎ Marked m i → ReachedSlot i
-      found i (inl (a, o, q)) = reached-slot (slot-row-below f ok j h a o .0) q (rw (sym here) at (operand a (g .sound j e) (rw here at o)))
+      found i (inl (a, o, q)) = reached-slot (slot-row-below f ok j h a o .0) q (subst (λ r. Reached f sign a (operandSign r (signOf j))) (sym here) (operand a (g .sound j e) (rw here at o)))
       found i (inr x) = g .sound i x
 
       take-in : (i : ℕ) → j ≤ i → i < 2 * f .rows → (a : ℕ) → OperandOf (R i) a → Dec (i ≡ j)

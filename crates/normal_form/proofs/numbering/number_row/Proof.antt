@@ -1,6 +1,7 @@
-use mathlib.Core.Path.{sym, _∙_}
+use mathlib.Core.Path.{sym, ap₂, _∙_}
 use native.Mathlib.Omega.{arith}
 use Rattle.tables.specs.Kind.{firstNumber}
+use Rattle.normal_form.specs.Sign.{slotOf}
 use Rattle.normal_form.proofs.Operands.{not-operand, alike-signed, alike-operand}
 use Rattle.normal_form.proofs.NumberLoop.{table-shared, table-own}
 use borrow.Author.Needs.{needs}
@@ -14,7 +15,7 @@ element-copy-out-next : tie.Need-element-copy-out-next
 element-copy-out-next c = omega (arith, c .slot .ensures .1, c .before .first-number .ensures, c .before .before .before .before .before .pre .0 (firstNumber (c .before .before .before .before .before .args .row)) (not-operand (c .before .before .before .before .before .args .row) (sym (c .before .before .before .before .is-not .ensures) ∙ c .before .before .before .if1 .taken)) .1)
 
 returns : tie.Need-returns
-returns c = λ l e q. table-shared (c .before .before .before .before .before .before .args .row) (c .before .before .before .before .before .before .args .sign) (c .before .before .before .before .before .before .args .slot) (c .before .before .before .before .before .before .pre .1) l e q (sym (c .before .before .before .before .before .is-not .ensures) ∙ c .before .before .before .before .if1 .taken) (c .before .slot .ensures .0 ∙ rw (c .before .before .first-number .ensures, c .before .before .before .turned .ensures)) (omega (arith, c .before .slot .ensures .1, c .before .before .first-number .ensures, c .before .before .before .before .before .before .pre .0 (firstNumber (c .before .before .before .before .before .before .args .row)) (not-operand (c .before .before .before .before .before .before .args .row) (sym (c .before .before .before .before .before .is-not .ensures) ∙ c .before .before .before .before .if1 .taken)) .1))
+returns c = λ l e q. table-shared (c .before .before .before .before .before .before .args .row) (c .before .before .before .before .before .before .args .sign) (c .before .before .before .before .before .before .args .slot) (c .before .before .before .before .before .before .pre .1) l e q (sym (c .before .before .before .before .before .is-not .ensures) ∙ c .before .before .before .before .if1 .taken) (c .before .slot .ensures .0 ∙ ap₂ slotOf (c .before .before .first-number .ensures) (c .before .before .before .turned .ensures)) (omega (arith, c .before .slot .ensures .1, c .before .before .first-number .ensures, c .before .before .before .before .before .before .pre .0 (firstNumber (c .before .before .before .before .before .before .args .row)) (not-operand (c .before .before .before .before .before .before .args .row) (sym (c .before .before .before .before .before .is-not .ensures) ∙ c .before .before .before .before .if1 .taken)) .1))
 
 renumber-requires : tie.Need-renumber-requires
 renumber-requires c κs = λ x o. c .before .before .before .before .pre .0 x (alike-operand (alike-signed (c .before .before .before .before .args .sign) (c .before .before .before .before .args .row)) x (rw (c .signed-row .ensures) at o))
