@@ -1,11 +1,13 @@
 -- A normal form's rows are in range, none is `not`, and there are at most two for each row of the formula. Assumes nothing.
-use mathlib.Core.Path.{_≡_, ap, _∙_}
+use mathlib.Core.Path.{_≡_, sym, ap, _∙_}
 use mathlib.Core.Bool.{true, false}
 use mathlib.Core.List.{List, map, map-map, map-id}
-use Prim.Native.Nat.{ℕ, _+_, _*_, _-_, _≤_}
+use Prim.Native.Nat.{ℕ, _+_, _*_, _-_, _≤_, _<_}
 use native.Mathlib.Omega.{arith}
-use lib.ListN.{length}
-use Rattle.tables.proofs.Places.{take-placed}
+use native.Mathlib.Decide.{decLt}
+use lib.ListN.{length, getD, List·getD-eq-default}
+use Rattle.tables.specs.Place.{placed}
+use Rattle.tables.proofs.Places.{length-tabulate, getD-tabulate, take-placed}
 use Rattle.tables.specs.declared.row.Row.{Row}
 use Rattle.tables.specs.declared.row.RowPlace.{RowPlace}
 use Rattle.tables.specs.declared.row.Formula.{Formula}
@@ -15,7 +17,7 @@ use Rattle.rule_file.specs.Row.{inRange}
 use Rattle.rule_file.specs.Rule.{inPlace, unused}
 use Rattle.rule_file.specs.Valid.{InRange}
 use Rattle.normal_form.specs.declared.sign.Sign.{Sign}
-use Rattle.normal_form.specs.Operand.{rowOf, isNot, Below, withOperands}
+use Rattle.normal_form.specs.Operand.{rowIn, rowOf, isNot, Below, withOperands}
 use Rattle.normal_form.specs.Sign.{signed}
 use Rattle.normal_form.specs.Reach.{reach}
 use Rattle.normal_form.specs.Numbering.{normalListing, normalRows, normalForm}
@@ -64,6 +66,18 @@ module _ (f : Formula) (sign : Sign) (ok : InRange f) where
       let h : length (normalRows f sign) ≤ 128 = omega (arith, rows-double, ok .most-rows) in
       ap (map (λ (p : RowPlace). p .row)) (take-placed 128 inPlace unused (normalRows f sign) h)
       ∙ (map-map (λ (p : RowPlace). p .row) inPlace (normalRows f sign) ∙ map-id (normalRows f sign))
+
+  -- and in each place: those behind the rows hold `true`
+  pub form-row : (i : ℕ) → rowIn (normalForm f sign .places) i ≡ getD (normalRows f sign) i unused
+  unfolding normalForm
+  form-row i = by (decLt i 128)
+    where
+      by : Dec (i < 128) → getD (placed 128 inPlace unused (normalRows f sign)) i (inPlace unused) .row ≡ getD (normalRows f sign) i unused
+      by (yes h) = ap (λ (p : RowPlace). p .row) (getD-tabulate 128 (λ j. inPlace (getD (normalRows f sign) j unused)) i (inPlace unused) h)
+      by (no h) =
+          let a : length (placed 128 inPlace unused (normalRows f sign)) ≤ i = rw length-tabulate (omega arith) in
+          let b : length (normalRows f sign) ≤ i = omega (arith, rows-double, ok .most-rows) in
+          ap (λ (p : RowPlace). p .row) (List·getD-eq-default (placed 128 inPlace unused (normalRows f sign)) (inPlace unused) a) ∙ sym (List·getD-eq-default (normalRows f sign) unused b)
 
   -- THE TABLE IS IN NEGATION NORMAL FORM
   pub form-normal : InNormalForm (normalForm f sign)

@@ -1,6 +1,6 @@
 -- A normal form has at most 125 rows. The root is reached under one sign. A row is reached under both only where a `not` turned
 -- the sign on the way, and that `not` gets no row: so of 64 rows one is the root with one row, one is a `not` with none, and 62
--- have two at most. Assumes nothing.
+-- have two at most. So the 128 rows of the sheet format are enough for every rule. Assumes nothing.
 use mathlib.Core.Path.{_≡_, refl, ap, _∙_}
 use mathlib.Core.Logic.{_⊎_, inl, inr}
 use mathlib.Core.Bool.{Bool, true, false}

@@ -41,7 +41,7 @@ pub record Normal (f : Formula) (sign : Sign) (number : ℕ → Sign → ℕ) (r
   pub order : (k : ℕ) (s : Sign) (k′ : ℕ) (s′ : Sign) → Listed f sign k s → Listed f sign k′ s′ → Before k s k′ s′ → number k s < number k′ s′
   -- nothing else appears
   pub only : (x : ℕ) → 1 ≤ x → x ≤ length rows → (k : ℕ) × (s : Sign) × Listed f sign k s × (number k s ≡ x)
-  -- "The result is a rule": "An operand is the number of an earlier row",
+  -- "The result is a rule file": "An operand is the number of an earlier row",
   pub earlier : (x : ℕ) → 1 ≤ x → x ≤ length rows → Below x (rowAt rows x)
-  -- and "the last row .. is the root"
+  -- and "the last row, which is the root"
   pub root-last : number (f .rows) sign ≡ length rows

@@ -1,8 +1,7 @@
-use mathlib.Core.Path.{subst}
+use mathlib.Core.Path.{subst, refl}
 use mathlib.Core.Logic.{inl, inr}
 use native.Mathlib.Omega.{arith}
 use Rattle.normal_form.specs.Operand.{Below}
-use mathlib.Core.Path.{refl}
 use borrow.Author.Needs.{needs}
 use Rattle.normal_form.proofs.reach.mark_operands.Statement.{statement}
 use Rattle.normal_form.proofs.reach.mark_operands.Tie as tie
