@@ -17,3 +17,4 @@ pub mod Lasso
 pub mod Agreement
 pub mod StrongTruth
 pub mod Prefix
+pub mod Informative

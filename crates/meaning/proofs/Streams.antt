@@ -125,7 +125,7 @@ module _ (k g : ℕ → Bool) where
 -- ---- how code reaches that depth
 
 module _ (k g : ℕ → Bool) where
-  approximant-split : (w : Bool) (d e i : ℕ) → approximant k g w (d + e) i ≡ approximant k g (approximant k g w e (i + d)) d i
+  pub approximant-split : (w : Bool) (d e i : ℕ) → approximant k g w (d + e) i ≡ approximant k g (approximant k g w e (i + d)) d i
   unfolding approximant
   approximant-split w zero e i =
       let p : zero + e ≡ e = omega arith in

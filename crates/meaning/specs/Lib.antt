@@ -3,3 +3,4 @@ pub mod Operator
 pub mod Trace
 pub mod Satisfaction
 pub mod Strong
+pub mod Informative

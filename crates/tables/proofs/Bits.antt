@@ -13,7 +13,7 @@ use Rattle.tables.specs.Bit.{bitAt, wordFrom, lineOf, marked}
 use Rattle.tables.specs.declared.trace.Line.{Line}
 use Rattle.tables.proofs.Places.{getD-tabulate, tabulate-ext, set-tabulate}
 
-digit : (b : Bool) → pick b 1 0 < 2
+pub digit : (b : Bool) → pick b 1 0 < 2
 digit true = omega arith
 digit false = omega arith
 
@@ -22,7 +22,7 @@ unfolding wordFrom
 word-below zero k f = omega arith
 word-below (suc n) k f = rw pow-suc (omega (arith, word-below n (suc k) f, digit (f k)))
 
-word-ext : (n k : ℕ) (f g : ℕ → Bool) → ((i : ℕ) → k ≤ i → i < k + n → f i ≡ g i) → wordFrom n k f ≡ wordFrom n k g
+pub word-ext : (n k : ℕ) (f g : ℕ → Bool) → ((i : ℕ) → k ≤ i → i < k + n → f i ≡ g i) → wordFrom n k f ≡ wordFrom n k g
 unfolding wordFrom
 word-ext zero k f g e = refl
 word-ext (suc n) k f g e = rw (e k (omega arith) (omega arith), word-ext n (suc k) f g (λ i a b. e i (omega arith) (omega arith)))

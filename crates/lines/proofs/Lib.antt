@@ -1,0 +1,5 @@
+pub mod Words
+pub mod Stretches
+pub mod Windows
+pub mod Carries
+pub mod LineWords

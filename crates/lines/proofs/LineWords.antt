@@ -1,0 +1,119 @@
+-- Lines word by word. Assumes nothing.
+use Prim.Native.Nat.{ℕ, zero, suc, _+_, _-_, _*_, _≤_, _<_, _%_}
+use mathlib.Core.Path.{_≡_, refl, sym, ap, ap₂, _∙_}
+use mathlib.Core.Bool.{Bool, false}
+use mathlib.Core.List.{List, [], _∷_}
+use native.Mathlib.Omega.{arith}
+use lib.Dec.{eqb}
+use lib.ListN.{getD}
+use borrow.Author.Tests.{eq-eqb, ne-eqb}
+use Rattle.tables.specs.Choice.{pick}
+use Rattle.tables.specs.Place.{tabulateFrom}
+use Rattle.tables.specs.Bit.{wordFrom, lineOf}
+use Rattle.tables.specs.declared.trace.Line.{Line}
+use Rattle.tables.proofs.Bits.{word-ext, OneMore}
+use Rattle.meaning.proofs.Streams.{approximant, approximant-split}
+use Rattle.lines.proofs.Words.{word-odd}
+
+-- the four words of a line
+module _ (f : ℕ → Bool) where
+  pub line-words : lineOf f ≡ record { words = wordFrom 64 0 f ∷ wordFrom 64 64 f ∷ wordFrom 64 128 f ∷ wordFrom 64 192 f ∷ [] }
+  unfolding lineOf tabulateFrom
+  line-words = refl
+
+-- a word of a line
+pub word-at-0 : (l : Line) (f : ℕ → Bool) → l ≡ lineOf f → getD (l .words) 0 0 ≡ wordFrom 64 0 f
+word-at-0 l f e = ap (λ (x : Line). getD (x .words) 0 0) (e ∙ line-words f)
+
+pub word-at-1 : (l : Line) (f : ℕ → Bool) → l ≡ lineOf f → getD (l .words) 1 0 ≡ wordFrom 64 64 f
+word-at-1 l f e = ap (λ (x : Line). getD (x .words) 1 0) (e ∙ line-words f)
+
+pub word-at-2 : (l : Line) (f : ℕ → Bool) → l ≡ lineOf f → getD (l .words) 2 0 ≡ wordFrom 64 128 f
+word-at-2 l f e = ap (λ (x : Line). getD (x .words) 2 0) (e ∙ line-words f)
+
+pub word-at-3 : (l : Line) (f : ℕ → Bool) → l ≡ lineOf f → getD (l .words) 3 0 ≡ wordFrom 64 192 f
+word-at-3 l f e = ap (λ (x : Line). getD (x .words) 3 0) (e ∙ line-words f)
+
+four : (f : ℕ → Bool) (p q r s : ℕ) → p ≡ wordFrom 64 0 f → q ≡ wordFrom 64 64 f → r ≡ wordFrom 64 128 f → s ≡ wordFrom 64 192 f → _≡_ {A = Line} (record { words = p ∷ q ∷ r ∷ s ∷ [] }) (lineOf f)
+four f p q r s a b c d = rw (a, b, c, d) (sym (line-words f))
+
+-- an operation on words, bit by bit, is one on lines
+module _ (op : ℕ → ℕ → ℕ) (on : Bool → Bool → Bool) (law : (n b : ℕ) (f g : ℕ → Bool) → op (wordFrom n b f) (wordFrom n b g) ≡ wordFrom n b (λ i. on (f i) (g i))) where
+  pub line-pointwise : (l m : Line) (f g : ℕ → Bool) → l ≡ lineOf f → m ≡ lineOf g
+      → _≡_ {A = Line} (record { words = op (getD (l .words) 0 0) (getD (m .words) 0 0) ∷ op (getD (l .words) 1 0) (getD (m .words) 1 0) ∷ op (getD (l .words) 2 0) (getD (m .words) 2 0) ∷ op (getD (l .words) 3 0) (getD (m .words) 3 0) ∷ [] }) (lineOf (λ i. on (f i) (g i)))
+  line-pointwise l m f g p q = four (λ i. on (f i) (g i)) _ _ _ _
+      (ap₂ op (word-at-0 l f p) (word-at-0 m g q) ∙ law 64 0 f g)
+      (ap₂ op (word-at-1 l f p) (word-at-1 m g q) ∙ law 64 64 f g)
+      (ap₂ op (word-at-2 l f p) (word-at-2 m g q) ∙ law 64 128 f g)
+      (ap₂ op (word-at-3 l f p) (word-at-3 m g q) ∙ law 64 192 f g)
+
+-- ---- an expansion of until over the whole line
+
+module _ (k g : ℕ → Bool) where
+  abbrev pub toEnd : ℕ → Bool
+  toEnd i = approximant k g false (256 - i) i
+
+  pub word-whole : (b : ℕ) → b + 64 ≤ 256 → wordFrom 64 b (λ i. approximant k g (toEnd (b + 64)) (b + 64 - i) i) ≡ wordFrom 64 b toEnd
+  word-whole b h = word-ext 64 b _ _ (λ i p q.
+      let n : b + 64 - i + (256 - (b + 64)) ≡ 256 - i = omega arith in
+      let j : i + (b + 64 - i) ≡ b + 64 = omega arith in
+      ap (λ x. approximant k g (approximant k g false (256 - (b + 64)) x) (b + 64 - i) i) (sym j)
+      ∙ sym (approximant-split k g false (b + 64 - i) (256 - (b + 64)) i)
+      ∙ ap (λ d. approximant k g false d i) n)
+
+  pub first-bit : (b : ℕ) → wordFrom 64 b toEnd % 2 ≡ pick (toEnd b) 1 0
+  first-bit b = word-odd 63 b toEnd
+
+  -- what carry_from promises
+  abbrev Carried : ℕ → ℕ → ℕ → ℕ → Type 0
+  Carried keep goal later r =
+      (b : ℕ) (k g : ℕ → Bool) (x : Bool) → keep ≡ wordFrom 64 b k → goal ≡ wordFrom 64 b g → later % 2 ≡ pick x 1 0 → r ≡ wordFrom 64 b (λ i. approximant k g x (b + 64 - i) i)
+
+  module _ (keep goal : Line) (p : keep ≡ lineOf k) (q : goal ≡ lineOf g) where
+    pub line-carry :
+        (r₀ r₁ r₂ r₃ : ℕ)
+        → Carried (getD (keep .words) 3 0) (getD (goal .words) 3 0) 0 r₃
+        → Carried (getD (keep .words) 2 0) (getD (goal .words) 2 0) r₃ r₂
+        → Carried (getD (keep .words) 1 0) (getD (goal .words) 1 0) r₂ r₁
+        → Carried (getD (keep .words) 0 0) (getD (goal .words) 0 0) r₁ r₀
+        → _≡_ {A = Line} (record { words = r₀ ∷ r₁ ∷ r₂ ∷ r₃ ∷ [] }) (lineOf toEnd)
+    unfolding approximant
+    line-carry r₀ r₁ r₂ r₃ c₃ c₂ c₁ c₀ =
+        let w₃ : r₃ ≡ wordFrom 64 192 toEnd = c₃ 192 k g (toEnd 256) (word-at-3 keep k p) (word-at-3 goal g q) refl ∙ word-whole 192 (omega arith) in
+        let w₂ : r₂ ≡ wordFrom 64 128 toEnd = c₂ 128 k g (toEnd 192) (word-at-2 keep k p) (word-at-2 goal g q) (ap (λ x. x % 2) w₃ ∙ first-bit 192) ∙ word-whole 128 (omega arith) in
+        let w₁ : r₁ ≡ wordFrom 64 64 toEnd = c₁ 64 k g (toEnd 128) (word-at-1 keep k p) (word-at-1 goal g q) (ap (λ x. x % 2) w₂ ∙ first-bit 128) ∙ word-whole 64 (omega arith) in
+        let w₀ : r₀ ≡ wordFrom 64 0 toEnd = c₀ 0 k g (toEnd 64) (word-at-0 keep k p) (word-at-0 goal g q) (ap (λ x. x % 2) w₁ ∙ first-bit 64) ∙ word-whole 0 (omega arith) in
+        four toEnd r₀ r₁ r₂ r₃ w₀ w₁ w₂ w₃
+
+-- ---- one cycle later
+
+-- what next_from promises
+abbrev NextOf : ℕ → ℕ → ℕ → Type 0
+NextOf word later r = (b : ℕ) (f : ℕ → Bool) → word ≡ wordFrom 64 b f → later % 2 ≡ pick (f (b + 64)) 1 0 → r ≡ wordFrom 64 b (λ i. f (suc i))
+
+module _ (f : ℕ → Bool) (end : f 256 ≡ false) (line : Line) (p : line ≡ lineOf f) where
+  pub line-next :
+      (r₀ r₁ r₂ r₃ : ℕ)
+      → NextOf (getD (line .words) 0 0) (getD (line .words) 1 0) r₀
+      → NextOf (getD (line .words) 1 0) (getD (line .words) 2 0) r₁
+      → NextOf (getD (line .words) 2 0) (getD (line .words) 3 0) r₂
+      → NextOf (getD (line .words) 3 0) 0 r₃
+      → _≡_ {A = Line} (record { words = r₀ ∷ r₁ ∷ r₂ ∷ r₃ ∷ [] }) (lineOf (λ i. f (suc i)))
+  line-next r₀ r₁ r₂ r₃ n₀ n₁ n₂ n₃ = four (λ i. f (suc i)) r₀ r₁ r₂ r₃
+      (n₀ 0 f (word-at-0 line f p) (ap (λ x. x % 2) (word-at-1 line f p) ∙ word-odd 63 64 f))
+      (n₁ 64 f (word-at-1 line f p) (ap (λ x. x % 2) (word-at-2 line f p) ∙ word-odd 63 128 f))
+      (n₂ 128 f (word-at-2 line f p) (ap (λ x. x % 2) (word-at-3 line f p) ∙ word-odd 63 192 f))
+      (n₃ 192 f (word-at-3 line f p) (rw end))
+
+-- ---- one cycle alone
+
+word-none : (n b : ℕ) → wordFrom n b (λ i. false) ≡ 0
+unfolding wordFrom
+word-none zero b = refl
+word-none (suc n) b = rw (word-none n (suc b))
+
+pub line-none : _≡_ {A = Line} (record { words = 0 ∷ 0 ∷ 0 ∷ 0 ∷ [] }) (lineOf (λ i. false))
+line-none = four (λ i. false) 0 0 0 0 (sym (word-none 64 0)) (sym (word-none 64 64)) (sym (word-none 64 128)) (sym (word-none 64 192))
+
+pub one-more : (c : ℕ) → OneMore (λ i. false) (λ i. eqb i c) c
+one-more c = record { was = refl; is = eq-eqb c c refl; other = λ i n. ne-eqb i c n }

@@ -1,0 +1,3 @@
+// Lines of bits, 64 cycles at a time.
+pub mod line;
+pub mod word;

@@ -1,0 +1,83 @@
+// Lines: up to 256 cycles in four words.
+use tables::trace::Line;
+ghost use mathlib.Core.Path.{_≡_};
+ghost use mathlib.Core.Bool.{Bool, false, _&&_, _||_};
+ghost use Prim.Native.Nat.{ℕ, suc, _-_, _<_};
+ghost use lib.Dec.{eqb};
+ghost use Rattle.tables.specs.Bit.{bitAt, lineOf};
+ghost use Rattle.meaning.proofs.Streams.{approximant};
+
+pub fn bit(line: Line, cycle: usize) -> bool
+    requires { ⌜ cycle < 256 ⌝ }
+    ensures { λ r. ⌜ r ≡ bitAt line cycle ⌝ }
+{
+    let words = line.words;
+    (words[cycle / 64] >> (cycle % 64)) % 2 == 1
+}
+
+pub fn both(a: Line, b: Line) -> Line
+    ensures { λ r. ⌜ ((f g : ℕ → Bool) → a ≡ lineOf f → b ≡ lineOf g → r ≡ lineOf (λ i. f i && g i)) ⌝ }
+{
+    let p = a.words;
+    let q = b.words;
+    Line {
+        words: [p[0] & q[0], p[1] & q[1], p[2] & q[2], p[3] & q[3]],
+    }
+}
+
+pub fn either(a: Line, b: Line) -> Line
+    ensures { λ r. ⌜ ((f g : ℕ → Bool) → a ≡ lineOf f → b ≡ lineOf g → r ≡ lineOf (λ i. f i || g i)) ⌝ }
+{
+    let p = a.words;
+    let q = b.words;
+    Line {
+        words: [p[0] | q[0], p[1] | q[1], p[2] | q[2], p[3] | q[3]],
+    }
+}
+
+// At each cycle: the goal is met there or later, with keep up to it.
+pub fn carry(keep: Line, goal: Line) -> Line
+    ensures { λ r. ⌜ ((k g : ℕ → Bool) → keep ≡ lineOf k → goal ≡ lineOf g → r ≡ lineOf (λ i. approximant k g false (256 - i) i)) ⌝ }
+{
+    let k = keep.words;
+    let g = goal.words;
+    let d = crate::word::carry_from(k[3], g[3], 0);
+    let c = crate::word::carry_from(k[2], g[2], d);
+    let b = crate::word::carry_from(k[1], g[1], c);
+    let a = crate::word::carry_from(k[0], g[0], b);
+    Line {
+        words: [a, b, c, d],
+    }
+}
+
+// What holds one cycle later, and nothing behind the last.
+pub fn next(line: Line) -> Line
+    ensures { λ r. ⌜ ((f : ℕ → Bool) → f 256 ≡ false → line ≡ lineOf f → r ≡ lineOf (λ i. f (suc i))) ⌝ }
+{
+    let w = line.words;
+    let a = crate::word::next_from(w[0], w[1]);
+    let b = crate::word::next_from(w[1], w[2]);
+    let c = crate::word::next_from(w[2], w[3]);
+    let d = crate::word::next_from(w[3], 0);
+    Line {
+        words: [a, b, c, d],
+    }
+}
+
+// One cycle alone.
+pub fn single(cycle: usize) -> Line
+    requires { ⌜ cycle < 256 ⌝ }
+    ensures { λ r. ⌜ r ≡ lineOf (λ i. eqb i cycle) ⌝ }
+{
+    tables::trace::with_bit(Line { words: [0; 4] }, cycle)
+}
+
+// Until on bits over a recording, where `last` is its last cycle alone and `ahead` says what holds behind it.
+pub fn until(keep: Line, goal: Line, last: Line, ahead: bool) -> Line
+    ensures { λ r. ⌜ ((k g z : ℕ → Bool) → keep ≡ lineOf k → goal ≡ lineOf g → last ≡ lineOf z → r ≡ lineOf (λ i. approximant k (λ j. g j || (k j && (ahead && z j))) false (256 - i) i)) ⌝ }
+{
+    if ahead {
+        return carry(keep, either(goal, both(keep, last)));
+    }
+    carry(keep, goal)
+}
