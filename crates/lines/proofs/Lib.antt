@@ -3,3 +3,4 @@ pub mod Stretches
 pub mod Windows
 pub mod Carries
 pub mod LineWords
+pub mod Recordings

@@ -3,6 +3,7 @@ use Prim.Native.Nat.{ℕ, zero, suc, _+_, _-_, _*_, _≤_, _<_, _%_}
 use mathlib.Core.Path.{_≡_, refl, sym, ap, ap₂, _∙_}
 use mathlib.Core.Bool.{Bool, false}
 use mathlib.Core.List.{List, [], _∷_}
+use native.Mathlib.Decide.{ℕ-discrete}
 use native.Mathlib.Omega.{arith}
 use lib.Dec.{eqb}
 use lib.ListN.{getD}
@@ -117,3 +118,10 @@ line-none = four (λ i. false) 0 0 0 0 (sym (word-none 64 0)) (sym (word-none 64
 
 pub one-more : (c : ℕ) → OneMore (λ i. false) (λ i. eqb i c) c
 one-more c = record { was = refl; is = eq-eqb c c refl; other = λ i n. ne-eqb i c n }
+
+pub last-cycle : (n : ℕ) → 1 ≤ n → (i : ℕ) → eqb i (n - 1) ≡ eqb (suc i) n
+last-cycle n h i = by (ℕ-discrete i (n - 1))
+  where
+    by : Dec (i ≡ n - 1) → eqb i (n - 1) ≡ eqb (suc i) n
+    by (yes e) = eq-eqb i (n - 1) e ∙ sym (eq-eqb (suc i) n (omega arith))
+    by (no e) = ne-eqb i (n - 1) e ∙ sym (ne-eqb (suc i) n (λ q. e (omega arith)))

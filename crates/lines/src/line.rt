@@ -2,10 +2,11 @@
 use tables::trace::Line;
 ghost use mathlib.Core.Path.{_≡_};
 ghost use mathlib.Core.Bool.{Bool, false, _&&_, _||_};
-ghost use Prim.Native.Nat.{ℕ, suc, _-_, _<_};
-ghost use lib.Dec.{eqb};
+ghost use Prim.Native.Nat.{ℕ, suc, _-_, _≤_, _<_};
+ghost use lib.Dec.{ltb, eqb};
 ghost use Rattle.tables.specs.Bit.{bitAt, lineOf};
 ghost use Rattle.meaning.proofs.Streams.{approximant};
+ghost use Rattle.lines.specs.Word.{Ends};
 
 pub fn bit(line: Line, cycle: usize) -> bool
     requires { ⌜ cycle < 256 ⌝ }
@@ -72,9 +73,18 @@ pub fn single(cycle: usize) -> Line
     tables::trace::with_bit(Line { words: [0; 4] }, cycle)
 }
 
-// Until on bits over a recording, where `last` is its last cycle alone and `ahead` says what holds behind it.
+// The last of so many cycles alone.
+pub fn last(cycles: usize) -> Line
+    requires { ⌜ (1 ≤ cycles) × (cycles ≤ 256) ⌝ }
+    ensures { λ r. ⌜ r ≡ lineOf (λ i. eqb (suc i) cycles) ⌝ }
+{
+    single(cycles - 1)
+}
+
+// Until over a recording of n cycles: at each of them the goal is met there or later, with keep up to it, or keep goes on to the end
+// and `ahead` holds behind it. `last` is the last cycle alone.
 pub fn until(keep: Line, goal: Line, last: Line, ahead: bool) -> Line
-    ensures { λ r. ⌜ ((k g z : ℕ → Bool) → keep ≡ lineOf k → goal ≡ lineOf g → last ≡ lineOf z → r ≡ lineOf (λ i. approximant k (λ j. g j || (k j && (ahead && z j))) false (256 - i) i)) ⌝ }
+    ensures { λ r. ⌜ ((n : ℕ) (k g : ℕ → Bool) → n ≤ 256 → Ends n k → Ends n g → keep ≡ lineOf k → goal ≡ lineOf g → last ≡ lineOf (λ i. eqb (suc i) n) → r ≡ lineOf (λ i. ltb i n && approximant k g ahead (n - i) i)) ⌝ }
 {
     if ahead {
         return carry(keep, either(goal, both(keep, last)));

@@ -1,21 +1,25 @@
 use mathlib.Core.Path.{sym, ap, _∙_, fun-ext}
 use mathlib.Core.Bool.{false, _&&_, _||_}
-use Prim.Native.Nat.{_-_}
+use Prim.Native.Nat.{suc, _-_}
+use lib.Dec.{eqb}
 use Rattle.tables.specs.Bit.{lineOf}
 use Rattle.meaning.proofs.Streams.{approximant}
 use Rattle.lines.proofs.Carries.{no-more}
+use Rattle.lines.proofs.Recordings.{recording-until}
 use borrow.Author.Needs.{needs}
 use Rattle.lines.proofs.line.until.Statement.{statement}
 use Rattle.lines.proofs.line.until.Tie as tie
 
 returns : tie.Need-returns
-returns c = λ k g z p q e. c .carry .ensures k (λ j. g j || (k j && z j)) p (c .before .either .ensures g (λ j. k j && z j) q (c .before .before .both .ensures k z p e))
-    ∙ ap (λ a. lineOf (λ i. approximant k (λ j. g j || (k j && (a && z j))) false (256 - i) i)) (sym (c .before .before .before .if1 .taken))
+returns c = λ n k g most ke ge p q e. c .carry .ensures k (λ j. g j || (k j && eqb (suc j) n)) p (c .before .either .ensures g (λ j. k j && eqb (suc j) n) q (c .before .before .both .ensures k (λ j. eqb (suc j) n) p e))
+    ∙ ap (λ a. lineOf (λ i. approximant k (λ j. g j || (k j && (a && eqb (suc j) n))) false (256 - i) i)) (sym (c .before .before .before .if1 .taken))
+    ∙ recording-until n most k g ke ge (c .before .before .before .before .args .ahead)
 
 returns-2 : tie.Need-returns-2
-returns-2 c = λ k g z p q e. c .carry2 .ensures k g p q
+returns-2 c = λ n k g most ke ge p q e. c .carry2 .ensures k g p q
     ∙ ap (λ h. lineOf (λ i. approximant k h false (256 - i) i)) (fun-ext (λ j. no-more (k j) (g j)))
-    ∙ ap (λ a. lineOf (λ i. approximant k (λ j. g j || (k j && (a && z j))) false (256 - i) i)) (sym (c .before .if1 .left))
+    ∙ ap (λ a. lineOf (λ i. approximant k (λ j. g j || (k j && (a && eqb (suc j) n))) false (256 - i) i)) (sym (c .before .if1 .left))
+    ∙ recording-until n most k g ke ge (c .before .before .args .ahead)
 
 pub until-spec : {M : Type 1} → statement M
 until-spec =
