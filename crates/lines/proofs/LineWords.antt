@@ -1,20 +1,20 @@
 -- Lines word by word. Assumes nothing.
-use Prim.Native.Nat.{ℕ, zero, suc, _+_, _-_, _*_, _≤_, _<_, _%_}
+use Prim.Native.Nat.{ℕ, zero, suc, _+_, _-_, _≤_, _<_, _%_, _^_}
 use mathlib.Core.Path.{_≡_, refl, sym, ap, ap₂, _∙_}
-use mathlib.Core.Bool.{Bool, false}
-use mathlib.Core.List.{List, [], _∷_}
-use native.Mathlib.Decide.{ℕ-discrete}
+use mathlib.Core.Bool.{Bool, true, false}
+use mathlib.Core.List.{[], _∷_}
+use native.Mathlib.Decide.{ℕ-discrete, decLt}
 use native.Mathlib.Omega.{arith}
-use lib.Dec.{eqb}
+use lib.Dec.{ltb, eqb}
 use lib.ListN.{getD}
-use borrow.Author.Tests.{eq-eqb, ne-eqb}
+use borrow.Author.Tests.{eq-eqb, ne-eqb, lt-ltb, le-ltb}
 use Rattle.tables.specs.Choice.{pick}
 use Rattle.tables.specs.Place.{tabulateFrom}
 use Rattle.tables.specs.Bit.{wordFrom, lineOf}
 use Rattle.tables.specs.declared.trace.Line.{Line}
-use Rattle.tables.proofs.Bits.{word-ext, OneMore}
-use Rattle.meaning.proofs.Streams.{approximant, approximant-split}
-use Rattle.lines.proofs.Words.{word-odd}
+use Rattle.tables.proofs.Bits.{word-ext, line-ext, OneMore}
+use Rattle.meaning.proofs.Streams.{expand, approximant, approximant-split}
+use Rattle.lines.proofs.Words.{word-odd, word-every}
 
 -- the four words of a line
 module _ (f : ℕ → Bool) where
@@ -125,3 +125,31 @@ last-cycle n h i = by (ℕ-discrete i (n - 1))
     by : Dec (i ≡ n - 1) → eqb i (n - 1) ≡ eqb (suc i) n
     by (yes e) = eq-eqb i (n - 1) e ∙ sym (eq-eqb (suc i) n (omega arith))
     by (no e) = ne-eqb i (n - 1) e ∙ sym (ne-eqb (suc i) n (λ q. e (omega arith)))
+
+-- ---- every cycle, and those up to the last
+
+pub line-every : (w : ℕ) → w + 1 ≡ 2 ^ 64 → _≡_ {A = Line} (record { words = w ∷ w ∷ w ∷ w ∷ [] }) (lineOf (λ i. true))
+line-every w e = four (λ i. true) w w w w (is 0) (is 64) (is 128) (is 192)
+  where
+    is : (b : ℕ) → w ≡ wordFrom 64 b (λ i. true)
+    is b = omega (arith, word-every 64 b)
+
+up-to : (n d i : ℕ) → n ≤ i + d → approximant (λ j. true) (λ j. eqb (suc j) n) false d i ≡ ltb i n
+unfolding approximant
+up-to n zero i h = sym (le-ltb i n (omega arith))
+up-to n (suc d) i h = by (ℕ-discrete (suc i) n) (up-to n d (suc i) (omega arith))
+  where
+    other : (suc i ≡ n → ⊥) → Dec (i < n) → ltb (suc i) n ≡ ltb i n
+    other e (yes q) = lt-ltb (suc i) n (by-le (decLt (suc i) n)) ∙ sym (lt-ltb i n q)
+      where
+        by-le : Dec (suc i < n) → suc i < n
+        by-le (yes r) = r
+        by-le (no r) = absurd (e (omega arith))
+    other e (no q) = le-ltb (suc i) n (omega arith) ∙ sym (le-ltb i n (omega arith))
+
+    by : Dec (suc i ≡ n) → approximant (λ j. true) (λ j. eqb (suc j) n) false d (suc i) ≡ ltb (suc i) n → expand true (eqb (suc i) n) (approximant (λ j. true) (λ j. eqb (suc j) n) false d (suc i)) ≡ ltb i n
+    by (yes e) rec = rw (eq-eqb (suc i) n e) (sym (lt-ltb i n (omega arith)))
+    by (no e) rec = rw (ne-eqb (suc i) n e) (rec ∙ other e (decLt i n))
+
+pub line-up-to : (n : ℕ) → n ≤ 256 → lineOf (toEnd (λ j. true) (λ j. eqb (suc j) n)) ≡ lineOf (λ i. ltb i n)
+line-up-to n h = line-ext _ _ (λ i l. up-to n (256 - i) i (omega arith))

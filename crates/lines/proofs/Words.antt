@@ -1,7 +1,7 @@
 -- Words as functions from cycles to Bools: and, or and shifts of words are those of the functions. Assumes nothing.
-use Prim.Native.Nat.{ℕ, zero, suc, _+_, _*_, _/_, _%_, _^_, _≤_, _<_, min, max}
+use Prim.Native.Nat.{ℕ, zero, suc, _+_, _-_, _*_, _/_, _%_, _^_, min, max}
 use mathlib.Core.Path.{_≡_, refl, sym, ap, ap₂, _∙_, fun-ext}
-use mathlib.Core.Bool.{Bool, true, false, _&&_, _||_}
+use mathlib.Core.Bool.{Bool, true, false, not, _&&_, _||_}
 use native.Mathlib.Nat.{pow-suc, pow-zero, div-one, div-div-eq-div-mul, add-zero}
 use native.Mathlib.Omega.{arith}
 use lib.Dec.{eqb}
@@ -117,3 +117,24 @@ module _ (b : ℕ) (f : ℕ → Bool) (word bit : ℕ) (w : word ≡ wordFrom 64
 
   pub next-off : (bit ≡ 1 → ⊥) → word / 2 ≡ wordFrom 64 b (λ i. f (suc i))
   next-off q = let z = none (f (b + 64)) e q in let h = word-next b f in let y : wordFrom 64 b f / 2 + 0 ≡ wordFrom 64 b f / 2 = add-zero _ in rw w (sym y ∙ rw z at h)
+
+-- ---- the first and not the second
+
+parts : (x y : Bool) → pick (x && y) 1 0 + pick (x && not y) 1 0 ≡ pick x 1 0
+parts true true = refl
+parts true false = refl
+parts false y = refl
+
+word-parts : (n b : ℕ) (f g : ℕ → Bool) → wordFrom n b (λ i. f i && g i) + wordFrom n b (λ i. f i && not (g i)) ≡ wordFrom n b f
+unfolding wordFrom
+word-parts zero b f g = refl
+word-parts (suc n) b f g = omega (arith, parts (f b) (g b), word-parts n (suc b) f g)
+
+pub word-without : (n b : ℕ) (f g : ℕ → Bool) → wordFrom n b f - bitAnd (wordFrom n b f) (wordFrom n b g) ≡ wordFrom n b (λ i. f i && not (g i))
+word-without n b f g = rw (word-and n b f g) (omega (arith, word-parts n b f g))
+
+-- every bit
+pub word-every : (n b : ℕ) → wordFrom n b (λ i. true) + 1 ≡ 2 ^ n
+unfolding wordFrom
+word-every zero b = rw (pow-zero 2)
+word-every (suc n) b = omega (arith, word-every n (suc b), pow-suc 2 n)

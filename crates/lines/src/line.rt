@@ -1,7 +1,7 @@
 // Lines: up to 256 cycles in four words.
 use tables::trace::Line;
 ghost use mathlib.Core.Path.{_≡_};
-ghost use mathlib.Core.Bool.{Bool, false, _&&_, _||_};
+ghost use mathlib.Core.Bool.{Bool, false, not, _&&_, _||_};
 ghost use Prim.Native.Nat.{ℕ, suc, _-_, _≤_, _<_};
 ghost use lib.Dec.{ltb, eqb};
 ghost use Rattle.tables.specs.Bit.{bitAt, lineOf};
@@ -33,6 +33,22 @@ pub fn either(a: Line, b: Line) -> Line
     let q = b.words;
     Line {
         words: [p[0] | q[0], p[1] | q[1], p[2] | q[2], p[3] | q[3]],
+    }
+}
+
+// The first and not the second.
+pub fn without(a: Line, b: Line) -> Line
+    ensures { λ r. ⌜ ((f g : ℕ → Bool) → a ≡ lineOf f → b ≡ lineOf g → r ≡ lineOf (λ i. f i && not (g i))) ⌝ }
+{
+    let p = a.words;
+    let q = b.words;
+    Line {
+        words: [
+            p[0] - (p[0] & q[0]),
+            p[1] - (p[1] & q[1]),
+            p[2] - (p[2] & q[2]),
+            p[3] - (p[3] & q[3]),
+        ],
     }
 }
 
@@ -90,4 +106,15 @@ pub fn until(keep: Line, goal: Line, last: Line, ahead: bool) -> Line
         return carry(keep, either(goal, both(keep, last)));
     }
     carry(keep, goal)
+}
+
+// So many cycles, all of them: those from which the last is still to come.
+pub fn all(cycles: usize) -> Line
+    requires { ⌜ (1 ≤ cycles) × (cycles ≤ 256) ⌝ }
+    ensures { λ r. ⌜ r ≡ lineOf (λ i. ltb i cycles) ⌝ }
+{
+    let every = Line {
+        words: [0xffff_ffff_ffff_ffff; 4],
+    };
+    carry(every, last(cycles))
 }

@@ -1,7 +1,7 @@
 -- The bound service's number is enough: a header of at most 29 bytes, and two lines of at most 22 bytes for each row of the rule.
 -- Assumes nothing.
-use Prim.Native.Nat.{ℕ, zero, suc, _+_, _*_, _/_, _≤_, _<_}
-use mathlib.Core.Path.{_≡_, sym, ap, _∙_}
+use Prim.Native.Nat.{ℕ, _+_, _*_, _/_, _≤_, _<_}
+use mathlib.Core.Path.{_≡_, sym, ap}
 use mathlib.Core.Bool.{true}
 use mathlib.Core.List.{List, [], _∷_}
 use native.Mathlib.Decide.{decLt}
@@ -13,16 +13,14 @@ use Rattle.tables.proofs.KindTable.{word-short, kind-of-row}
 use Rattle.tables.specs.declared.row.Row.{Row}
 use Rattle.tables.specs.declared.row.Row.the-variants.{Constant, Signal, Unary, Binary}
 use Rattle.tables.specs.declared.row.Formula.{Formula}
-use Rattle.tables.specs.declared.row.NormalForm.{NormalForm}
 use Rattle.text.specs.Body.{EachAt}
 use Rattle.text.specs.Written.{decimal, writtenLine, writtenBody}
 use Rattle.text.proofs.Elements.{line-length}
 use Rattle.rule_file.specs.Row.{inRange}
 use Rattle.rule_file.specs.Valid.{InRange}
-use Rattle.rule_file.specs.Written.{numbersText, writtenRow, ruleText}
+use Rattle.rule_file.specs.Written.{numbersText, writtenRow}
 use Rattle.rule_file.proofs.RowValues.{numbers-below}
 use Rattle.normal_form.specs.declared.sign.Sign.{Sign}
-use Rattle.normal_form.specs.Form.{InNormalForm}
 use Rattle.normal_form.specs.Numbering.{normalRows, normalForm}
 use Rattle.normal_form.proofs.Ranges.{rows-double, form-normal, form-rows}
 use Rattle.writing.specs.Normal.{writtenNormal}

@@ -1,7 +1,6 @@
 -- DEMAND 2 ON THE NORMAL FORM: "The normal form negates signals only and is satisfied by the same takes." The first half is
 -- `form-normal` (Ranges.antt). Assumes nothing.
-use Prim.Native.Nat.{ℕ, suc, _≤_}
-use mathlib.Core.Path.{_≡_, subst}
+use Prim.Native.Nat.{_≤_}
 use mathlib.Core.Logic.{_↔_}
 use native.Mathlib.Omega.{arith}
 use lib.ListN.{length}
@@ -14,7 +13,7 @@ use Rattle.meaning.proofs.Readings.{Full, classical-full}
 use Rattle.normal_form.specs.declared.sign.Sign.{Sign}
 use Rattle.normal_form.specs.declared.sign.Sign.the-variants.{Plain, Negated}
 use Rattle.normal_form.specs.Reached.{Reached.root}
-use Rattle.normal_form.specs.Numbering.{normalRows, normalListing, newNumber, normalForm}
+use Rattle.normal_form.specs.Numbering.{normalRows, newNumber, normalForm}
 use Rattle.normal_form.proofs.Operands.{row-below}
 use Rattle.normal_form.proofs.Normality.{normal}
 use Rattle.normal_form.proofs.Ranges.{rows-double}

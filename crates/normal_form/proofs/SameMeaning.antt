@@ -1,7 +1,7 @@
 -- A normal form means what its formula means, and that of the negation means the opposite (demand 2). Assumes nothing.
 use Prim.Native.Nat.{ℕ, zero, suc, _-_, _≤_, _<_}
 use mathlib.Core.Path.{_≡_, refl, sym, ap, _∙_, subst, subst⁻¹}
-use mathlib.Core.Logic.{_↔_, _⊎_, inl, inr, Iff·trans, Iff·symm}
+use mathlib.Core.Logic.{_↔_, inl, inr, Iff·trans, Iff·symm}
 use mathlib.Core.Bool.{Bool, true, false, true≢false}
 use mathlib.Core.List.{List}
 use native.Mathlib.Omega.{arith}
@@ -21,7 +21,7 @@ use Rattle.rule_file.specs.Rule.{inPlace, unused}
 use Rattle.meaning.specs.Reading.{Reading}
 use Rattle.meaning.specs.Trace.{InfiniteTrace}
 use Rattle.meaning.specs.Satisfaction.{Table, tableOf, Means, RowTrue}
-use Rattle.meaning.proofs.Readings.{iff-refl, Full, Stable, into-itself, not-not-stable, row-induction}
+use Rattle.meaning.proofs.Readings.{iff-refl, Full, into-itself, not-not-stable, row-induction}
 use Rattle.meaning.proofs.Rows.{Each, each-map, each-signal, Ordered, Positive}
 use Rattle.meaning.proofs.Truth.{true-means}
 use Rattle.meaning.proofs.Monotone.{means-map}
@@ -30,7 +30,7 @@ use Rattle.meaning.proofs.RowDuality.{dual-excludes, dual-else}
 use Rattle.normal_form.specs.declared.sign.Sign.{Sign}
 use Rattle.normal_form.specs.declared.sign.Sign.the-variants.{Plain, Negated}
 use Rattle.normal_form.specs.Operand.{rowIn, rowOf, isNot, OperandOf, Below, withOperands}
-use Rattle.normal_form.specs.Sign.{turned, signed, operandSign}
+use Rattle.normal_form.specs.Sign.{turned, signed}
 use Rattle.normal_form.specs.Reached.{Reached, Reached.root, Reached.operand}
 use Rattle.normal_form.specs.Normal.{Listed, rowAt, Normal}
 

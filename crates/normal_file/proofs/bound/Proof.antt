@@ -1,4 +1,4 @@
-use mathlib.Core.Path.{_∙_, sym}
+use mathlib.Core.Path.{sym}
 use Rattle.text.proofs.Searching.{know}
 use borrow.Author.Needs.{needs}
 use Rattle.normal_file.proofs.bound.Statement.{statement}

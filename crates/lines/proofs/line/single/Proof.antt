@@ -1,4 +1,4 @@
-use mathlib.Core.Path.{sym, ap, _∙_}
+use mathlib.Core.Path.{ap, _∙_}
 use Rattle.tables.specs.Bit.{marked}
 use Rattle.tables.proofs.Bits.{mark-room, line-marked}
 use Rattle.lines.proofs.LineWords.{line-none, one-more}
