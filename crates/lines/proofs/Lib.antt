@@ -3,4 +3,5 @@ pub mod Stretches
 pub mod Windows
 pub mod Carries
 pub mod LineWords
+pub mod Masks
 pub mod Recordings

@@ -35,7 +35,7 @@ word-at-2 l f e = ap (λ (x : Line). getD (x .words) 2 0) (e ∙ line-words f)
 pub word-at-3 : (l : Line) (f : ℕ → Bool) → l ≡ lineOf f → getD (l .words) 3 0 ≡ wordFrom 64 192 f
 word-at-3 l f e = ap (λ (x : Line). getD (x .words) 3 0) (e ∙ line-words f)
 
-four : (f : ℕ → Bool) (p q r s : ℕ) → p ≡ wordFrom 64 0 f → q ≡ wordFrom 64 64 f → r ≡ wordFrom 64 128 f → s ≡ wordFrom 64 192 f → _≡_ {A = Line} (record { words = p ∷ q ∷ r ∷ s ∷ [] }) (lineOf f)
+pub four : (f : ℕ → Bool) (p q r s : ℕ) → p ≡ wordFrom 64 0 f → q ≡ wordFrom 64 64 f → r ≡ wordFrom 64 128 f → s ≡ wordFrom 64 192 f → _≡_ {A = Line} (record { words = p ∷ q ∷ r ∷ s ∷ [] }) (lineOf f)
 four f p q r s a b c d = rw (a, b, c, d) (sym (line-words f))
 
 -- an operation on words, bit by bit, is one on lines

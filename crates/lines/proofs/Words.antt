@@ -13,7 +13,7 @@ use Rattle.tables.proofs.Bits.{digit}
 use Rattle.lines.specs.Word.{Ends}
 
 module _ (n b : ℕ) (f : ℕ → Bool) where
-  word-half : wordFrom (suc n) b f / 2 ≡ wordFrom n (suc b) f
+  pub word-half : wordFrom (suc n) b f / 2 ≡ wordFrom n (suc b) f
   unfolding wordFrom
   word-half = omega (arith, digit (f b))
 

@@ -16,8 +16,9 @@ pub fn bit(line: Line, cycle: usize) -> bool
     (words[cycle / 64] >> (cycle % 64)) % 2 == 1
 }
 
+// The first line may be any: only its bits at the second one's cycles count.
 pub fn both(a: Line, b: Line) -> Line
-    ensures { λ r. ⌜ ((f g : ℕ → Bool) → a ≡ lineOf f → b ≡ lineOf g → r ≡ lineOf (λ i. f i && g i)) ⌝ }
+    ensures { λ r. ⌜ ((g : ℕ → Bool) → b ≡ lineOf g → r ≡ lineOf (λ i. bitAt a i && g i)) ⌝ }
 {
     let p = a.words;
     let q = b.words;
@@ -81,12 +82,19 @@ pub fn next(line: Line) -> Line
     }
 }
 
+// No cycle.
+pub fn none() -> Line
+    ensures { λ r. ⌜ r ≡ lineOf (λ i. false) ⌝ }
+{
+    Line { words: [0; 4] }
+}
+
 // One cycle alone.
 pub fn single(cycle: usize) -> Line
     requires { ⌜ cycle < 256 ⌝ }
     ensures { λ r. ⌜ r ≡ lineOf (λ i. eqb i cycle) ⌝ }
 {
-    tables::trace::with_bit(Line { words: [0; 4] }, cycle)
+    tables::trace::with_bit(none(), cycle)
 }
 
 // The last of so many cycles alone.

@@ -135,6 +135,16 @@ module _ (k g : ℕ → Bool) where
       let q : suc i + d ≡ i + suc d = omega arith in
       ap (λ d. approximant k g w d i) p ∙ ap (expand (k i) (g i)) (approximant-split w d e (suc i) ∙ ap (λ j. approximant k g (approximant k g w e j) d (suc i)) q)
 
+  -- keep and goal count at the cycles passed alone
+  pub approximant-local :
+      (k′ g′ : ℕ → Bool) (w : Bool) (d i : ℕ) → ((j : ℕ) → i ≤ j → j < i + d → (k j ≡ k′ j) × (g j ≡ g′ j))
+      → approximant k g w d i ≡ approximant k′ g′ w d i
+  unfolding approximant
+  approximant-local k′ g′ w zero i e = refl
+  approximant-local k′ g′ w (suc d) i e =
+      let h = e i (omega arith) (omega arith) in
+      rw (h .0, h .1) (ap (expand (k′ i) (g′ i)) (approximant-local k′ g′ w d (suc i) (λ j a b. e j (omega arith) (omega arith))))
+
   -- on a lasso: one pass over the loop from w, and another one from what the first left at the loop's cycle l
   pub two-rounds : (N b : ℕ) → 0 < N → Periodic N b k → Periodic N b g → (w : Bool) (l d i : ℕ) → b ≤ l → i + d ≡ l + N
       → approximant k g (approximant k g w N l) d i ≡ approximant k g w (d + N) i

@@ -10,5 +10,6 @@ pub mod Ranges
 pub mod Uniqueness
 pub mod Sizes
 pub mod SameMeaning
+pub mod FormTables
 pub mod Demand
 pub mod Cases

@@ -7,38 +7,52 @@ use native.Mathlib.Omega.{arith}
 use lib.Dec.{ltb, eqb}
 use borrow.Author.Tests.{lt-ltb, le-ltb, eq-eqb, ne-eqb}
 use Rattle.tables.specs.Choice.{pick}
-use Rattle.tables.specs.Bit.{lineOf}
+use Rattle.tables.specs.Bit.{bitAt, lineOf}
+use Rattle.tables.specs.declared.trace.Line.{Line}
+use Rattle.tables.specs.declared.trace.Ending.{Ending}
+use Rattle.tables.specs.declared.trace.Ending.the-variants.{Open, Loop}
 use Rattle.tables.proofs.Bits.{line-ext}
-use Rattle.lines.specs.Word.{Ends}
+use Rattle.take_file.specs.Valid.{Below as LoopBelow}
+use Rattle.truth.specs.Run.{Shows, bitBehind}
+use Rattle.truth.proofs.Passes.{cut, cut-same, cut-ends, shown-bit}
 
-or-off : (b : Bool) → (b || false) ≡ b
+-- what is entered behind the last cycle, read off a line
+pub behind-shown : (n : ℕ) (line : Line) (f : ℕ → Bool) (ending : Ending) → n ≤ 256 → Shows n line f → LoopBelow n ending → bitBehind (bitAt line) ending ≡ bitBehind f ending
+behind-shown n line f Open most s h = refl
+behind-shown n line f (Loop l) most s h = shown-bit n line f most s l h
+
+pub or-off : (b : Bool) → (b || false) ≡ b
 or-off true = refl
 or-off false = refl
 
-and-off : (b : Bool) → (b && false) ≡ false
+pub and-off : (b : Bool) → (b && false) ≡ false
 and-off true = refl
 and-off false = refl
 
-and-on : (b : Bool) → (b && true) ≡ b
+pub and-on : (b : Bool) → (b && true) ≡ b
 and-on true = refl
 and-on false = refl
 
-module _ (n : ℕ) (f : ℕ → Bool) (ends : Ends n f) (x : Bool) where
-  next-at : (i : ℕ) → Dec (suc i < n) → Dec (suc i ≡ n) → (f (suc i) || (x && eqb (suc i) n)) ≡ (ltb i n && pick (ltb (suc i) n) (f (suc i)) x)
-  next-at i (yes h) e = rw (lt-ltb i n (omega arith), lt-ltb (suc i) n h, ne-eqb (suc i) n (λ q. omega arith)) (ap (λ t. f (suc i) || t) (and-off x) ∙ or-off (f (suc i)))
-  next-at i (no h) (yes e) = rw (lt-ltb i n (omega arith), le-ltb (suc i) n (omega arith), eq-eqb (suc i) n e, ends (suc i) (omega arith)) (and-on x)
-  next-at i (no h) (no e) = rw (ends (suc i) (omega arith), ne-eqb (suc i) n e, le-ltb i n (later (decLt i n))) (and-off x)
-    where
-      later : Dec (i < n) → n ≤ i
-      later (yes q) = absurd (e (omega arith))
-      later (no q) = omega arith
+module _ (n : ℕ) (q : ℕ → Bool) (x : Bool) where
+  -- one cycle later, with x behind the last
+  abbrev pub later : ℕ → Bool
+  later i = pick (ltb (suc i) n) (q (suc i)) x
 
-  pub next-line : lineOf (λ i. f (suc i) || (x && eqb (suc i) n)) ≡ lineOf (λ i. ltb i n && pick (ltb (suc i) n) (f (suc i)) x)
-  next-line = line-ext _ _ (λ i h. next-at i (decLt (suc i) n) (ℕ-discrete (suc i) n))
+  later-at : (i : ℕ) → Dec (suc i < n) → Dec (suc i ≡ n) → (cut n q (suc i) || (x && eqb (suc i) n)) ≡ cut n later i
+  later-at i (yes h) e = rw (lt-ltb i n (omega arith), lt-ltb (suc i) n h, ne-eqb (suc i) n (λ z. omega arith)) (ap (λ t. q (suc i) || t) (and-off x) ∙ or-off (q (suc i)))
+  later-at i (no h) (yes e) = rw (lt-ltb i n (omega arith), le-ltb (suc i) n (omega arith), eq-eqb (suc i) n e) (and-on x)
+  later-at i (no h) (no e) = rw (le-ltb (suc i) n (omega arith), ne-eqb (suc i) n e, le-ltb i n (passed (decLt i n))) (and-off x)
+    where
+      passed : Dec (i < n) → n ≤ i
+      passed (yes z) = absurd (e (omega arith))
+      passed (no z) = omega arith
+
+  later-line : lineOf (λ i. cut n q (suc i) || (x && eqb (suc i) n)) ≡ lineOf (cut n later)
+  later-line = line-ext _ _ (λ i h. later-at i (decLt (suc i) n) (ℕ-discrete (suc i) n))
 
   -- what comes behind the end is on
-  pub next-on : x ≡ true → lineOf (λ i. f (suc i) || eqb (suc i) n) ≡ lineOf (λ i. ltb i n && pick (ltb (suc i) n) (f (suc i)) x)
-  next-on e = ap (λ y. lineOf (λ i. f (suc i) || (y && eqb (suc i) n))) (sym e) ∙ next-line
+  pub later-on : x ≡ true → lineOf (λ i. cut n q (suc i) || eqb (suc i) n) ≡ lineOf (cut n later)
+  later-on e = ap (λ y. lineOf (λ i. cut n q (suc i) || (y && eqb (suc i) n))) (sym e) ∙ later-line
 
-  pub next-off : x ≡ false → lineOf (λ i. f (suc i)) ≡ lineOf (λ i. ltb i n && pick (ltb (suc i) n) (f (suc i)) x)
-  next-off e = ap lineOf (fun-ext (λ i. sym (or-off (f (suc i))))) ∙ ap (λ y. lineOf (λ i. f (suc i) || (y && eqb (suc i) n))) (sym e) ∙ next-line
+  pub later-off : x ≡ false → lineOf (λ i. cut n q (suc i)) ≡ lineOf (cut n later)
+  later-off e = ap lineOf (fun-ext (λ i. sym (or-off (cut n q (suc i))))) ∙ ap (λ y. lineOf (λ i. cut n q (suc i) || (y && eqb (suc i) n))) (sym e) ∙ later-line

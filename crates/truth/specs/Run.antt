@@ -1,32 +1,32 @@
 -- A recording as the lines of rows need it. Assumes nothing.
-use Prim.Native.Nat.{ℕ, suc, _-_, _<_}
+use Prim.Native.Nat.{ℕ, suc, _-_, _≤_}
 use mathlib.Core.Path.{_≡_}
-use mathlib.Core.Bool.{Bool, false}
+use mathlib.Core.Bool.{Bool, false, _&&_}
 use lib.Dec.{ltb, eqb}
-use Rattle.tables.specs.Bit.{bitAt, lineOf}
+use Rattle.tables.specs.Bit.{lineOf}
 use Rattle.tables.specs.declared.trace.Line.{Line}
 use Rattle.tables.specs.declared.trace.Ending.{Ending}
 use Rattle.tables.specs.declared.trace.Ending.the-variants.{Open, Loop}
+use Rattle.take_file.specs.Valid.{Below as LoopBelow}
 use Rattle.meaning.proofs.Streams.{approximant}
 use Rattle.truth.specs.declared.Run.{Run}
 
--- the loop begins below n
-abbrev pub LoopWithin : ℕ → Ending → Type 0
-LoopWithin n Open = Unit {0}
-LoopWithin n (Loop l) = l < n
-
 -- the run of a recording of n cycles
 pub record RunOf (n : ℕ) (run : Run) : Type 0 where
+  pub most : n ≤ 256
   pub all-cycles : run .all ≡ lineOf (λ i. ltb i n)
   pub last-cycle : run .last ≡ lineOf (λ i. eqb (suc i) n)
-  pub loop-within : LoopWithin n (run .ending)
+  pub loop-within : LoopBelow n (run .ending)
 
--- what holds behind the last cycle: nothing on an open take; on a lasso what a pass finds at the loop's cycle
-abbrev pub behind : ℕ → (ℕ → Bool) → (ℕ → Bool) → Bool → Ending → Bool
-behind n k g weak Open = false
-behind n k g weak (Loop l) = approximant k g weak (n - l) l
+-- a line is f at each of the first n cycles, and 0 behind them
+abbrev pub Shows : ℕ → Line → (ℕ → Bool) → Type 0
+Shows n line f = line ≡ lineOf (λ i. ltb i n && f i)
 
--- the same of a line alone
-abbrev pub bitBehind : Line → Ending → Bool
-bitBehind a Open = false
-bitBehind a (Loop l) = bitAt a l
+-- what is found behind the last cycle: on a lasso what f is at the loop's cycle, and nothing on an open take
+abbrev pub bitBehind : (ℕ → Bool) → Ending → Bool
+bitBehind f Open = false
+bitBehind f (Loop l) = f l
+
+-- and so for until, of which a pass over the loop alone tells what it is at the loop's cycle
+abbrev pub untilBehind : ℕ → (ℕ → Bool) → (ℕ → Bool) → Bool → Ending → Bool
+untilBehind n k g weak ending = bitBehind (λ l. approximant k g weak (n - l) l) ending

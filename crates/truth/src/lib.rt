@@ -2,6 +2,7 @@
 use tables::trace::Ending;
 use tables::trace::Line;
 
+pub mod fill;
 pub mod row;
 
 // What the lines of a recording of so many cycles need: its cycles, the last of them alone, and where it goes on.

@@ -4,6 +4,7 @@ use Prim.Native.Nat.{suc, _-_}
 use lib.Dec.{eqb}
 use Rattle.tables.specs.Bit.{lineOf}
 use Rattle.meaning.proofs.Streams.{approximant}
+use Rattle.lines.proofs.Masks.{known-masked}
 use Rattle.lines.proofs.Carries.{no-more}
 use Rattle.lines.proofs.Recordings.{recording-until}
 use borrow.Author.Needs.{needs}
@@ -11,7 +12,7 @@ use Rattle.lines.proofs.line.until.Statement.{statement}
 use Rattle.lines.proofs.line.until.Tie as tie
 
 returns : tie.Need-returns
-returns c = λ n k g most ke ge p q e. c .carry .ensures k (λ j. g j || (k j && eqb (suc j) n)) p (c .before .either .ensures g (λ j. k j && eqb (suc j) n) q (c .before .before .both .ensures k (λ j. eqb (suc j) n) p e))
+returns c = λ n k g most ke ge p q e. c .carry .ensures k (λ j. g j || (k j && eqb (suc j) n)) p (c .before .either .ensures g (λ j. k j && eqb (suc j) n) q (c .before .before .both .ensures (λ j. eqb (suc j) n) e ∙ known-masked _ k (λ j. eqb (suc j) n) p))
     ∙ ap (λ a. lineOf (λ i. approximant k (λ j. g j || (k j && (a && eqb (suc j) n))) false (256 - i) i)) (sym (c .before .before .before .if1 .taken))
     ∙ recording-until n most k g ke ge (c .before .before .before .before .args .ahead)
 

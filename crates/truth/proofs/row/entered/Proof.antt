@@ -1,4 +1,5 @@
 use mathlib.Core.Path.{sym, ap, _∙_}
+use Rattle.tables.specs.Bit.{bitAt}
 use Rattle.truth.specs.Run.{bitBehind}
 use borrow.Author.Needs.{needs}
 use Rattle.truth.proofs.row.entered.Statement.{statement}
@@ -8,7 +9,7 @@ bit-requires : tie.Need-bit-requires
 bit-requires c κs = rw (c .before .ending .given .1) at (c .before .before .before .pre)
 
 returns-2 : tie.Need-returns-2
-returns-2 c = c .bit .ensures ∙ ap (bitBehind (c .before .before .before .before .args .a)) (sym (c .before .before .ending .given .1))
+returns-2 c = c .bit .ensures ∙ ap (bitBehind (bitAt (c .before .before .before .before .args .a))) (sym (c .before .before .ending .given .1))
 
 pub entered-spec : {M : Type 1} → statement M
 entered-spec =

@@ -1,5 +1,5 @@
 use mathlib.Core.Path.{_∙_}
-use Rattle.truth.proofs.Passes.{open-pass, loop-pass}
+use Rattle.truth.proofs.Passes.{cut, cut-ends, cut-pass, open-pass, loop-pass}
 use borrow.Author.Needs.{needs}
 use Rattle.truth.proofs.row.temporal.Statement.{statement}
 use Rattle.truth.proofs.row.temporal.Tie as tie
@@ -8,10 +8,10 @@ bit-requires : tie.Need-bit-requires
 bit-requires c κs = rw (c .before .before .ending .given .1) at (c .before .before .before .before .pre)
 
 returns : tie.Need-returns
-returns c = λ n k g most run ke ge p q. c .until .ensures n k g most ke ge p q (run .last-cycle) ∙ open-pass n k g (c .before .before .before .args .weak) (c .before .before .before .args .run .ending) (c .before .enum-told .given .1)
+returns c = λ n k g run p q. c .until .ensures n (cut n k) (cut n g) (run .most) (cut-ends n k) (cut-ends n g) p q (run .last-cycle) ∙ cut-pass n k g _ ∙ open-pass n k g (c .before .before .before .args .weak) (c .before .before .before .args .run .ending) (c .before .enum-told .given .1)
 
 returns-2 : tie.Need-returns-2
-returns-2 c = λ n k g most run ke ge p q. c .until3 .ensures n k g most ke ge p q (run .last-cycle) ∙ loop-pass n k g (c .before .before .before .before .before .before .args .weak) _ _ (c .before .before .before .before .before .before .args .run .ending) _ most (c .before .before .before .before .ending .given .1) (run .loop-within) (c .before .before .until2 .ensures n k g most ke ge p q (run .last-cycle)) (c .before .bit .ensures)
+returns-2 c = λ n k g run p q. c .until3 .ensures n (cut n k) (cut n g) (run .most) (cut-ends n k) (cut-ends n g) p q (run .last-cycle) ∙ cut-pass n k g _ ∙ loop-pass n k g (c .before .before .before .before .before .before .args .weak) _ _ (c .before .before .before .before .before .before .args .run .ending) _ (run .most) (c .before .before .before .before .ending .given .1) (run .loop-within) (c .before .before .until2 .ensures n (cut n k) (cut n g) (run .most) (cut-ends n k) (cut-ends n g) p q (run .last-cycle) ∙ cut-pass n k g _) (c .before .bit .ensures)
 
 pub temporal-spec : {M : Type 1} → statement M
 temporal-spec =

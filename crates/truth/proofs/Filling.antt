@@ -1,0 +1,115 @@
+-- The lines of all rows, one after the other, and that they tell the truth. Assumes nothing.
+use Prim.Native.Nat.{ℕ, suc, _+_, _-_, _≤_, _<_}
+use mathlib.Core.Path.{_≡_, refl, sym, ap, subst, subst⁻¹, _∙_}
+use mathlib.Core.Logic.{_↔_, Iff·trans}
+use mathlib.Core.Bool.{Bool, true, _&&_}
+use mathlib.Core.List.{List, []}
+use native.Mathlib.Decide.{ℕ-discrete}
+use native.Mathlib.Omega.{arith}
+use lib.ListN.{length, getD, set, length-set}
+use lib.Seq.{getD-set-same, getD-set-other}
+use lib.Dec.{ltb}
+use borrow.Author.Tests.{le-ltb, lt-ltb}
+use Rattle.tables.specs.declared.row.Row.{Row}
+use Rattle.tables.specs.declared.row.NormalForm.{NormalForm}
+use Rattle.tables.specs.declared.trace.Ending.{Ending}
+use Rattle.tables.specs.declared.trace.Ending.the-variants.{Open, Loop}
+use Rattle.tables.specs.declared.trace.Line.{Line}
+use Rattle.tables.specs.declared.trace.Trace.{Trace}
+use Rattle.take_file.specs.Valid.{Below as LoopBelow, InRange}
+use Rattle.meaning.specs.Reading.{classical}
+use Rattle.meaning.specs.Trace.{InfiniteTrace, position, signalAt}
+use Rattle.meaning.specs.Satisfaction.{Table, tableOf, RowTrue}
+use Rattle.meaning.specs.Strong.{RowStronglyTrue}
+use Rattle.meaning.proofs.Truth.{everyCycle}
+use Rattle.meaning.proofs.Readings.{On}
+use Rattle.meaning.proofs.Rows.{Each, each-map, EachSignal, each-signal-map, Ordered, Positive}
+use Rattle.meaning.proofs.Periodic.{position-first}
+use Rattle.meaning.proofs.Evaluation.{bitsWithin, bitsOf, bits-computed}
+use Rattle.meaning.proofs.PatternBits.{rowBit}
+use Rattle.meaning.proofs.Lasso.{twoRounds, lasso, lasso-bits-computed, lasso-truth}
+use Rattle.meaning.proofs.StrongTruth.{cyclesBelow}
+use Rattle.meaning.proofs.Prefix.{prefix, toEnd, prefix-truth}
+use Rattle.normal_form.specs.Form.{InNormalForm}
+use Rattle.normal_form.proofs.FormTables.{form-operands, form-ordered, form-signals, form-positive}
+use Rattle.lines.specs.Word.{Ends}
+use Rattle.truth.specs.Run.{Shows}
+use Rattle.truth.specs.Pass.{rowPass}
+use Rattle.truth.specs.Truth.{lineIn, TrueIn, Tells}
+use Rattle.truth.proofs.Passes.{cut, shows-alike}
+use Rattle.truth.proofs.Matches.{row-lasso, row-prefix}
+
+module _ (n : ℕ) (ending : Ending) (signals : ℕ → ℕ → Bool) (t : Table) (m : ℕ) where
+  -- at each of the n cycles the bits of each row below m are what a pass finds for it
+  abbrev pub Found : (ℕ → ℕ → Bool) → Type 0
+  Found bits = (k : ℕ) → k < m → (c : ℕ) → c < n → bits k c ≡ rowPass n ending signals bits (t k) c
+
+  -- the lines of the first k rows are filled
+  pub record FilledTo (k : ℕ) (lines : List Line) : Type 0 where
+    pub size : length lines ≡ 128
+    pub shown : (bits : ℕ → ℕ → Bool) → Found bits → (j : ℕ) → j < k → Shows n (lineIn lines j) (bits (suc j))
+
+  pub fill-none : (lines : List Line) → length lines ≡ 128 → FilledTo 0 lines
+  fill-none lines e = record { size = e; shown = λ bits f j h. absurd (omega arith) }
+
+  pub fill-next :
+      {k : ℕ} {lines : List Line} (line : Line) → k < 128 → suc k < m → FilledTo k lines
+      → ((bits : ℕ → ℕ → Bool) → Found bits → Shows n line (rowPass n ending signals bits (t (suc k)))) → FilledTo (k + 1) (set lines k line)
+  fill-next {k} {lines} line most h filled new = record { size = length-set lines k line ∙ filled .size; shown = λ bits f j l. by bits f j l (ℕ-discrete j k) }
+    where
+      by : (bits : ℕ → ℕ → Bool) → Found bits → (j : ℕ) → j < k + 1 → Dec (j ≡ k) → Shows n (lineIn (set lines k line) j) (bits (suc j))
+      by bits f j l (yes e) =
+          let s : Shows n line (bits (suc k)) = new bits f ∙ shows-alike n _ _ (λ c b. sym (f (suc k) h c b)) in
+          rw e (getD-set-same lines k line (record { words = [] }) (omega (arith, filled .size)) ∙ s)
+      by bits f j l (no e) = getD-set-other lines k j line (record { words = [] }) e ∙ filled .shown bits f j (omega arith)
+
+  -- the operands' lines are there
+  pub earlier-shown :
+      {k : ℕ} {lines : List Line} → FilledTo k lines → (bits : ℕ → ℕ → Bool) → Found bits → (r : Row) → Each (λ a. (1 ≤ a) × (a < suc k)) r
+      → Each (λ a. Shows n (lineIn lines (a - 1)) (bits a)) r
+  earlier-shown {k} {lines} filled bits f r below = each-map _ _ (λ a x. let e : suc (a - 1) ≡ a = omega (arith, x .0) in rw e at (filled .shown bits f (a - 1) (omega (arith, x .0, x .1)))) r below
+
+  pub fill-enough : {k j : ℕ} {lines : List Line} → j ≤ k → FilledTo k lines → FilledTo j lines
+  fill-enough h filled = record { size = filled .size; shown = λ bits f i l. filled .shown bits f i (omega arith) }
+
+pub loop-further : (ending : Ending) (n m : ℕ) → n ≤ m → LoopBelow n ending → LoopBelow m ending
+loop-further Open n m h b = tt
+loop-further (Loop l) n m h b = omega arith
+
+-- the bits computed to the end of a prefix end with it
+prefix-bits-end : (n : ℕ) (w : InfiniteTrace) (t : Table) (k : ℕ) → Ends n (bitsOf (cyclesBelow n) (prefix n w) (toEnd n w) t k)
+unfolding bitsOf bitsWithin
+prefix-bits-end n w t k i h = ap (λ b. b && rowBit (prefix n w) (toEnd n w) (bitsWithin (cyclesBelow n) (prefix n w) (toEnd n w) t k) (t k) i) (le-ltb i n h)
+
+module _ (g : NormalForm) (t : Trace) (ok : InNormalForm g) where
+  -- the numbers in a row have their places
+  pub row-numbers : (k : ℕ) → k < g .rows → Each (λ a. (1 ≤ a) × (a ≤ 128)) (tableOf (g .places) (suc k)) × EachSignal (λ s. (1 ≤ s) × (s ≤ 32)) (tableOf (g .places) (suc k))
+  row-numbers k h = (
+    each-map _ _ (λ a x. (x .0, omega (arith, x .1, ok .most-rows))) (tableOf (g .places) (suc k)) (form-operands g ok (suc k) (omega arith)),
+    each-signal-map _ _ (tableOf (g .places) (suc k)) (λ s x. (x .0, omega (arith, x .1, ok .most-signals))) (form-signals g ok (suc k) (omega arith)),
+  )
+
+  -- ALL ROWS FILLED, EACH LINE TELLS WHERE ITS ROW IS TRUE
+  pub filled-tells :
+      (ending : Ending) → LoopBelow (t .cycles) ending → (lines : List Line) → FilledTo (t .cycles) ending (signalAt t) (tableOf (g .places)) (suc (g .rows)) (g .rows) lines
+      → (k : ℕ) → k < g .rows → Tells (t .cycles) (lineIn lines k) (TrueIn g t ending (suc k))
+  filled-tells Open below lines filled k h =
+      let n : ℕ = t .cycles in
+      let w : InfiniteTrace = signalAt t in
+      let p : Table = tableOf (g .places) in
+      let m : ℕ = suc (g .rows) in
+      let ordered : Ordered m p = form-ordered g ok in
+      let bits : ℕ → ℕ → Bool = bitsOf (cyclesBelow n) (prefix n w) (toEnd n w) p in
+      let computed = bits-computed (cyclesBelow n) (prefix n w) (toEnd n w) p m ordered in
+      let found : Found n Open w p m bits = λ j l c b. computed j l c ∙ ap (λ x. x && rowBit (prefix n w) (toEnd n w) bits (p j) c) (lt-ltb c n b) ∙ row-prefix n w bits (prefix-bits-end n w p) (p j) (form-positive g ok j l) c b in
+      (bits (suc k), filled .shown bits found k h, λ c b. let e = prefix-truth n w p m ordered (form-positive g ok) bits computed classical (suc k) (omega arith) c in (λ x. e .0 (b, x), λ x. e .1 x .1))
+  filled-tells (Loop l) below lines filled k h =
+      let n : ℕ = t .cycles in
+      let w : InfiniteTrace = signalAt t in
+      let p : Table = tableOf (g .places) in
+      let m : ℕ = suc (g .rows) in
+      let ordered : Ordered m p = form-ordered g ok in
+      let bits : ℕ → ℕ → Bool = bitsOf everyCycle (lasso n l below w) (twoRounds n l below) p in
+      let computed = lasso-bits-computed n l below w p m ordered in
+      let found : Found n (Loop l) w p m bits = λ j i c b. computed j i c b ∙ row-lasso n l below w bits (p j) c b in
+      (bits (suc k), filled .shown bits found k h, λ c b. subst (λ i. RowTrue classical (lasso n l below w) p (suc k) c ↔ On (bits (suc k) i)) (position-first n l c b) (lasso-truth n l below w p m ordered bits computed classical (suc k) (omega arith) c))

@@ -1,0 +1,100 @@
+-- What the passes find is what the meaning's theorems ask for: on a lasso the bits computed along its unrolling, on a prefix those
+-- computed to its end. Assumes nothing.
+use Prim.Native.Nat.{ℕ, suc, _+_, _-_, _≤_, _<_}
+use mathlib.Core.Path.{_≡_, refl, sym, ap, ap₂, _∙_}
+use mathlib.Core.Bool.{Bool, true, false, _&&_, _||_}
+use native.Mathlib.Decide.{decLt}
+use native.Mathlib.Omega.{arith}
+use lib.Dec.{ltb}
+use borrow.Author.Tests.{lt-ltb, le-ltb}
+use Rattle.tables.specs.Choice.{pick}
+use Rattle.tables.specs.declared.row.UnaryKind.the-variants.{Not, Next, Always, Ever}
+use Rattle.tables.specs.declared.row.BinaryKind.the-variants.{And, Or, Weak, Until, Release, Srelease}
+use Rattle.tables.specs.declared.row.Row.{Row}
+use Rattle.tables.specs.declared.row.Row.the-variants.{Constant, Signal, Unary, Binary}
+use Rattle.tables.specs.declared.trace.Ending.the-variants.{Open, Loop}
+use Rattle.meaning.specs.Trace.{InfiniteTrace, position}
+use Rattle.meaning.proofs.Readings.{on-and-off}
+use Rattle.meaning.proofs.Rows.{Positive}
+use Rattle.meaning.proofs.Periodic.{Periodic, position-first, position-periodic}
+use Rattle.meaning.proofs.Streams.{expand, approximant, approximant-local, to-end}
+use Rattle.meaning.proofs.Pattern.{Pattern, Pattern.now, Pattern.next, Pattern.connective, Pattern.temporal, left, right, patternOf, signalSign}
+use Rattle.meaning.proofs.PatternBits.{connectiveBit, keepBits, goalBits, patternBit, signedBit, rowBit, operandBits}
+use Rattle.meaning.proofs.Lasso.{twoRounds, two-passes, lasso}
+use Rattle.meaning.proofs.Prefix.{prefix, toEnd}
+use Rattle.lines.specs.Word.{Ends}
+use Rattle.truth.specs.Pass.{untilPass, passBit, rowPass}
+
+-- ---- on a lasso
+
+module _ (n l : ℕ) (l<n : l < n) where
+  along : (ℕ → Bool) → ℕ → Bool
+  along f i = f (position n l i)
+
+  along-first : (f : ℕ → Bool) (i : ℕ) → i < n → along f i ≡ f i
+  unfolding along
+  along-first f i h = ap f (position-first n l i h)
+
+  along-periodic : (f : ℕ → Bool) → Periodic (n - l) l (along f)
+  unfolding along
+  along-periodic f i h = ap f (position-periodic n l l<n i h)
+
+  until-lasso : (k g : ℕ → Bool) (w : Bool) (c : ℕ) → c < n → approximant (along k) (along g) w (twoRounds n l l<n c) c ≡ untilPass n (Loop l) k g w c
+  until-lasso k g w c h =
+      two-passes n l l<n (along k) (along g) (along-periodic k) (along-periodic g) w c (omega arith)
+      ∙ same _ (n - c) c (omega arith)
+      ∙ ap (λ x. approximant k g x (n - c) c) (same w (n - l) l (omega arith))
+    where
+      same : (x : Bool) (d i : ℕ) → i + d ≤ n → approximant (along k) (along g) x d i ≡ approximant k g x d i
+      same x d i b = approximant-local (along k) (along g) k g x d i (λ j p q. (along-first k j (omega arith), along-first g j (omega arith)))
+
+  pick-over : (f : ℕ → Bool) (b : Bool) (x y : ℕ) → f (pick b x y) ≡ pick b (f x) (f y)
+  pick-over f true x y = refl
+  pick-over f false x y = refl
+
+  pattern-lasso : (p q : ℕ → Bool) (x : Pattern) (c : ℕ) → c < n → patternBit (twoRounds n l l<n) (along p) (along q) x c ≡ passBit n (Loop l) p q x c
+  unfolding along position
+  pattern-lasso p q now c h = along-first q c h
+  pattern-lasso p q next c h = pick-over q (ltb (suc (position n l c)) n) (suc (position n l c)) l ∙ ap (λ i. pick (ltb (suc i) n) (q (suc i)) (q l)) (position-first n l c h)
+  pattern-lasso p q (connective f) c h = ap₂ (connectiveBit f) (along-first p c h) (along-first q c h)
+  pattern-lasso p q (temporal f w) c h = until-lasso (keepBits f p q) (goalBits f p q) w c h
+
+  pub row-lasso :
+      (recording : ℕ → ℕ → Bool) (bits : ℕ → ℕ → Bool) (r : Row) (c : ℕ) → c < n
+      → rowBit (lasso n l l<n recording) (twoRounds n l l<n) (λ a i. bits a (position n l i)) r c ≡ rowPass n (Loop l) recording bits r c
+  unfolding along
+  row-lasso recording bits r c h = pattern-lasso (operandBits recording bits (left r)) (operandBits recording bits (right r)) (patternOf r) c h
+
+-- ---- on a prefix
+
+module _ (n : ℕ) (w : InfiniteTrace) (bits : ℕ → ℕ → Bool) (ends : (a : ℕ) → Ends n (bits a)) where
+  off : (k g v : Bool) → k ≡ false → g ≡ false → expand k g v ≡ false
+  off k g v p q = rw (p, q)
+
+  until-prefix : (k g : ℕ → Bool) (v : Bool) → expand (k n) (g n) v ≡ false → (c : ℕ) → c < n → approximant k g v (toEnd n w c) c ≡ untilPass n Open k g v c
+  until-prefix k g v o c h = to-end k g v n (n - c) c (omega arith) o
+
+  off-both : (x y v : Bool) → y ≡ false → expand y (x && y) v ≡ false
+  off-both true y v e = rw e
+  off-both false y v e = rw e
+
+  end : (a : ℕ) → bits a n ≡ false
+  end a = ends a n (omega arith)
+
+  pub row-prefix : (r : Row) → Positive r → (c : ℕ) → c < n → rowBit (prefix n w) (toEnd n w) bits r c ≡ rowPass n Open w bits r c
+  row-prefix (Constant k) p c h = refl
+  row-prefix (Signal k s) p c h = ap (λ b. signedBit (signalSign k) (b && w c s)) (lt-ltb c n h)
+  row-prefix (Unary Not a) p c h = on-and-off p refl
+  row-prefix (Unary Next a) p c h = by (decLt (suc c) n)
+    where
+      by : Dec (suc c < n) → bits a (suc c) ≡ pick (ltb (suc c) n) (bits a (suc c)) false
+      by (yes l) = sym (ap (λ b. pick b (bits a (suc c)) false) (lt-ltb (suc c) n l))
+      by (no l) = ends a (suc c) (omega arith) ∙ sym (ap (λ b. pick b (bits a (suc c)) false) (le-ltb (suc c) n (omega arith)))
+  row-prefix (Unary Always a) p c h = until-prefix (bits a) (λ j. false) true (off _ _ _ (end a) refl) c h
+  row-prefix (Unary Ever a) p c h = until-prefix (λ j. true) (bits a) false (ap (λ b. expand true b false) (end a)) c h
+  row-prefix (Binary And a b) p c h = refl
+  row-prefix (Binary Or a b) p c h = refl
+  row-prefix (Binary Weak a b) p c h = until-prefix (bits a) (bits b) true (off _ _ _ (end a) (end b)) c h
+  row-prefix (Binary Until a b) p c h = until-prefix (bits a) (bits b) false (off _ _ _ (end a) (end b)) c h
+  row-prefix (Binary Release a b) p c h = until-prefix (bits b) (λ j. bits a j && bits b j) true (off-both (bits a n) (bits b n) true (end b)) c h
+  row-prefix (Binary Srelease a b) p c h = until-prefix (bits b) (λ j. bits a j && bits b j) false (off-both (bits a n) (bits b n) false (end b)) c h
