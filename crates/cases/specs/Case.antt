@@ -9,9 +9,10 @@ use Rattle.text.specs.Result.{Result}
 use Rattle.text.specs.Result.Result.{accepted, refused}
 use Rattle.rule_file.specs.Rule.{parseRule}
 use Rattle.normal_form.specs.declared.sign.Sign.{Sign}
+use Rattle.writing.specs.Answer.{writtenAnswer}
 use Rattle.writing.specs.Lent.{overlaid}
-use Rattle.normal_file.specs.declared.Bytes.the-variants.{Count}
-use Rattle.normal_file.specs.Answer.{writtenAnswer, normalAnswer, normalLeft, boundAnswer}
+use Rattle.writing.specs.declared.answer.Bytes.the-variants.{Count}
+use Rattle.normal_file.specs.Answer.{normalAnswer, normalLeft, boundAnswer}
 
 -- a file, by its lines
 abbrev pub File : Type 0

@@ -1,7 +1,7 @@
 // Reads `rule.txt` in the working folder and writes the file of its normal form to standard output, or the refusal.
-use normal_file::Bytes;
 use normal_form::sign::Sign;
 use tables::refusal::Outcome;
+use writing::answer::Bytes;
 
 fn main() {
     let mut space = [0u8; 65537];

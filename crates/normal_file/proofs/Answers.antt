@@ -9,9 +9,10 @@ use Rattle.tables.specs.declared.refusal.Refusal.{Refusal}
 use Rattle.tables.specs.declared.refusal.Outcome.the-variants.{Accepted, Refused}
 use Rattle.tables.specs.declared.row.Formula.{Formula}
 use Rattle.normal_form.specs.declared.sign.Sign.{Sign}
+use Rattle.writing.specs.Answer.{tooShort}
 use Rattle.writing.specs.Lent.{overlaid}
-use Rattle.normal_file.specs.Answer.{ownOutcome, output, tooShort, normalAnswer, normalLeft}
-use Rattle.normal_file.specs.declared.Bytes.the-variants.{Count, Refused as BytesRefused}
+use Rattle.writing.specs.declared.answer.Bytes.the-variants.{Count, Refused as BytesRefused}
+use Rattle.normal_file.specs.Answer.{ownOutcome, output, normalAnswer, normalLeft}
 
 module _ (f : Formula) (s : Sign) (buf : List ℕ) where
   module _ {r : Refusal} (e : ownOutcome f ≡ Refused r) where

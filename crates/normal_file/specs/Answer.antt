@@ -1,10 +1,6 @@
 -- What the services on the normal form answer, and what they leave in the lent buffer. Assumes nothing.
 use Prim.Native.Nat.{ℕ, _+_, _*_}
 use mathlib.Core.List.{List}
-use lib.Dec.{leb}
-use lib.ListN.{length}
-use Rattle.tables.specs.Choice.{pick}
-use Rattle.tables.specs.declared.refusal.Reason.the-variants.{ShortBuffer}
 use Rattle.tables.specs.declared.refusal.Refusal.{Refusal}
 use Rattle.tables.specs.declared.refusal.Outcome.{Outcome}
 use Rattle.tables.specs.declared.refusal.Outcome.the-variants.{Accepted, Refused}
@@ -14,10 +10,11 @@ use Rattle.rule_file.specs.Rule.{parseRule}
 use Rattle.rule_file.specs.Written.{writtenRule}
 use Rattle.normal_form.specs.declared.sign.Sign.{Sign}
 use Rattle.normal_form.specs.Numbering.{normalForm}
+use Rattle.writing.specs.Answer.{writtenAnswer}
 use Rattle.writing.specs.Lent.{overlaid}
 use Rattle.writing.specs.Normal.{writtenNormal}
-use Rattle.normal_file.specs.declared.Bytes.{Bytes}
-use Rattle.normal_file.specs.declared.Bytes.the-variants.{Count, Refused as BytesRefused}
+use Rattle.writing.specs.declared.answer.Bytes.{Bytes}
+use Rattle.writing.specs.declared.answer.Bytes.the-variants.{Count, Refused as BytesRefused}
 
 -- "A table handed to a service is checked as if written out as its file": its own refusals come first
 abbrev pub ownOutcome : Formula → Outcome
@@ -30,13 +27,6 @@ onOutcome (Refused r) g x = g r
 -- the output: the rule file of the normal form
 abbrev pub output : Formula → Sign → List ℕ
 output f s = writtenNormal (normalForm f s)
-
--- "A lent output buffer is shorter than the output": 10, file and line 0
-abbrev pub tooShort : Refusal
-tooShort = record { reason = ShortBuffer; file = 0; line = 0 }
-
-abbrev pub writtenAnswer : List ℕ → List ℕ → Bytes
-writtenAnswer out buf = pick (leb (length out) (length buf)) (Count (length out)) (BytesRefused tooShort)
 
 -- the output's length, or the first refusal
 abbrev pub normalAnswer : Formula → Sign → List ℕ → Bytes

@@ -6,12 +6,7 @@ use tables::refusal::Outcome;
 use tables::refusal::Reason;
 use tables::refusal::Refusal;
 use tables::row::Formula;
-
-// How many bytes, or the refusal.
-pub enum Bytes {
-    Count(usize),
-    Refused(Refusal),
-}
+use writing::answer::Bytes;
 
 // The file of the normal form of the formula (plain) or of its negation (negated), written whole or not at all. The output is
 // made in an array of its own first, so that nothing half-written is ever seen.

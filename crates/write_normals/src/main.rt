@@ -1,9 +1,9 @@
 // Prints, for each rule file that its arguments name: the name, the bound, the file of the normal form and that of the negation's.
 use libc::STDOUT_FILENO;
-use normal_file::Bytes;
 use normal_form::sign::Sign;
 use tables::refusal::Outcome;
 use tables::row::Formula;
+use writing::answer::Bytes;
 
 fn print_bound(formula: Formula) {
     let bound = normal_file::bound(formula);
