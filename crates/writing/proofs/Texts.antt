@@ -85,6 +85,10 @@ line-front : (key value rest : List ℕ) → writtenLine key value rest ≡ writ
 line-front key value rest =
     sym (append-assoc key (61 ∷ (value ++ (10 ∷ []))) rest ∙ ap (λ l. key ++ (61 ∷ l)) (append-assoc value (10 ∷ []) rest))
 
+-- a line, and what was put behind it
+pub wrote-line : {b m a : List ℕ} {at e f : ℕ} (key value : List ℕ) {rest : List ℕ} → Wrote b at (writtenLine key value []) m e → Wrote m e rest a f → Wrote b at (writtenLine key value rest) a f
+wrote-line key value {rest} x y = wrote-is (sym (line-front key value rest)) (wrote-both x y)
+
 module _ {A : Type 0} (letter : ℕ) (text : A → List ℕ) where
   body-more : (xs : List A) (x : A) (k : ℕ) → writtenBody letter text k (xs ++ (x ∷ [])) ≡ writtenBody letter text k xs ++ writtenLine (letter ∷ decimal (k + length xs)) (text x) []
   unfolding writtenBody

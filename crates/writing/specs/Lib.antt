@@ -1,3 +1,4 @@
 pub mod Answer
 pub mod Lent
 pub mod Normal
+pub mod Refusal
