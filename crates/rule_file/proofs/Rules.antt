@@ -14,7 +14,9 @@ use Rattle.tables.specs.Kind.{kindAt, wordOf, placeOf}
 use Rattle.tables.specs.Place.{placed}
 use Rattle.tables.proofs.KindTable.{word-short, kind-of-row}
 use Rattle.tables.proofs.Places.{length-tabulate, take-placed}
-use Rattle.tables.specs.declared.refusal.Outcome.the-variants.{Accepted}
+use Rattle.tables.specs.declared.refusal.Outcome.the-variants.{Accepted, Refused}
+use Rattle.tables.specs.declared.refusal.Reason.{Reason}
+use Rattle.tables.specs.declared.refusal.Refusal.{Refusal}
 use Rattle.tables.specs.declared.refusal.Reason.the-variants.{TooLong, WrongFormat, CountOutOfRange}
 use Rattle.tables.specs.declared.row.Row.{Row}
 use Rattle.tables.specs.declared.row.Row.the-variants.{Constant, Signal, Unary, Binary}
@@ -31,6 +33,7 @@ use Rattle.text.proofs.Lines.{Free}
 use Rattle.text.proofs.Bodies.{BodyOf, body-written, body-read}
 use Rattle.text.proofs.Headers.{count-then, count-in, count-below, count-above, count-range, map-accepted, test-accepted, outcome-accepted}
 use Rattle.text.proofs.Elements.{decimal-short, count-short, body-short}
+use Rattle.text.proofs.RefusedLines.{RefusedBy, map-by, test-by, count-by, body-by, refused-line, outcome-line}
 use Rattle.rule_file.specs.Row.{inRange, rowValue}
 use Rattle.rule_file.specs.Rule.{inPlace, unused, formulaOf, ruleLines, parseRule}
 use Rattle.rule_file.specs.Written.{numbersText, writtenRow, rowsOf, ruleText, writtenRule}
@@ -198,3 +201,20 @@ rule-read file f e =
 -- so that no two files yield one formula
 pub rule-once : (a b : List ℕ) (f : Formula) → parseRule a ≡ accepted f → parseRule b ≡ accepted f → a ≡ b
 rule-once a b f p q = rule-read a f p .0 ∙ sym (rule-read b f q .0)
+
+-- ---- the line of a refusal: three lines of counts, up to 64 rows, and the line behind them
+refused-by : (file : List ℕ) → RefusedBy 68 (parseRule file)
+unfolding parseRule
+refused-by file =
+    test-by 68 (ltb 65536 (length file)) TooLong 0 (ruleLines 64 formulaOf file) (omega arith)
+    (count-by 68 1 (bytes "format") 1 1 WrongFormat file behindFormat (omega arith) λ one after-format o.
+    count-by 68 2 (bytes "signals") 1 32 CountOutOfRange after-format behindSignals (omega arith) λ signals after-signals s.
+    count-by 68 3 (bytes "rows") 1 64 CountOutOfRange after-signals (behindRows signals) (omega arith) λ rows body m.
+    map-by 68 (formulaOf signals rows) (bodyLines 114 (rowValue signals) rows 1 4 body) (body-by 68 114 (rowValue signals) rows 1 4 body (omega arith)))
+
+-- A REFUSED RULE FILE NAMES A LINE UP TO 68
+pub rule-refused-line : (file : List ℕ) (e : Reason) (n : ℕ) → parseRule file ≡ refused e n → n ≤ 68
+rule-refused-line file e n q = refused-line 68 (parseRule file) (refused-by file) e n q
+
+pub rule-outcome-line : (file : List ℕ) (x : Refusal) → outcomeOf 1 (parseRule file) ≡ Refused x → x .line ≤ 68
+rule-outcome-line file x q = outcome-line 68 (parseRule file) (refused-by file) 1 x q

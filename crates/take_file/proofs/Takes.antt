@@ -5,13 +5,15 @@ use mathlib.Core.List.{List, [], map}
 use Prim.Native.Nat.{ℕ, _*_, _≤_, _<_, min}
 use native.Mathlib.Omega.{arith}
 use lib.Dec.{ltb}
-use lib.ListN.{length, getD, take, length-map, length-take}
+use lib.ListN.{length, getD, take, drop, length-map, length-take}
 use borrow.Author.Tests.{le-ltb, ltb-false}
 use Rattle.tables.specs.Choice.{pick}
 use Rattle.tables.specs.Bytes.{bytes}
 use Rattle.tables.specs.Bit.{bitAt, lineOf}
+use Rattle.tables.specs.declared.refusal.Reason.{Reason}
 use Rattle.tables.specs.declared.refusal.Reason.the-variants.{TooLong, WrongFormat, CountOutOfRange, BadLoop}
-use Rattle.tables.specs.declared.refusal.Outcome.the-variants.{Accepted}
+use Rattle.tables.specs.declared.refusal.Refusal.{Refusal}
+use Rattle.tables.specs.declared.refusal.Outcome.the-variants.{Accepted, Refused}
 use Rattle.tables.specs.declared.trace.Ending.{Ending}
 use Rattle.tables.specs.declared.trace.Ending.the-variants.{Open, Loop}
 use Rattle.tables.specs.declared.trace.Line.{Line}
@@ -31,6 +33,7 @@ use Rattle.text.proofs.Lines.{line-step}
 use Rattle.text.proofs.DigitLines.{digits-written, digits-free, digits-read, text-length}
 use Rattle.text.proofs.Bodies.{body-written, body-read}
 use Rattle.text.proofs.Elements.{all-ok, ok-at, decimal-short, line-length, count-short, body-short}
+use Rattle.text.proofs.RefusedLines.{RefusedBy, map-by, test-by, line-by, count-by, body-by, refused-line, outcome-line}
 use Rattle.text.proofs.Headers.{free, parsed-accepted, map-accepted, test-accepted, outcome-accepted, line-then, count-then, count-in, count-below, count-above, count-range}
 use Rattle.take_file.specs.Ending.{endingValue}
 use Rattle.take_file.specs.Take.{digit, linesOf, traceOf, parseTake}
@@ -256,3 +259,21 @@ checked t e =
 -- and a trace in range passes it
 pub checked-all : (t : Trace) → length (t .lines) ≡ 32 → InRange t → outcomeOf 2 (parseTake (writtenTake t)) ≡ Accepted
 checked-all t full r = ap (outcomeOf 2) (in-range t full (r .some-signals) (r .most-signals) (r .some-cycles) (r .most-cycles) (r .loop))
+
+-- ---- the line of a refusal: four lines of the header, up to 256 cycles, and the line behind them
+refused-by : (file : List ℕ) → RefusedBy 261 (parseTake file)
+refused-by file =
+    rw by-lines
+    (test-by 261 (ltb 65536 (length file)) TooLong 0 (onLine 1 (keyedLine (isKey (bytes "format")) (countForm 1 1 WrongFormat)) file FromSignals) (omega arith)
+    (count-by 261 1 (bytes "format") 1 1 WrongFormat file FromSignals (omega arith) λ one after-format o.
+    count-by 261 2 (bytes "signals") 1 32 CountOutOfRange after-format FromCycles (omega arith) λ signals after-signals s.
+    count-by 261 3 (bytes "cycles") 1 256 CountOutOfRange after-signals (FromLoop signals) (omega arith) λ cycles after-cycles m.
+    line-by 261 4 (keyedLine (isKey (bytes "loop")) (endingValue cycles)) after-cycles (FromBody signals cycles) (omega arith) λ x e.
+    map-by 261 (traceOf signals cycles (x .value)) (bodyLines 99 (λ c. digitsForm signals) cycles 0 5 (drop (x .next) after-cycles)) (body-by 261 99 (λ c. digitsForm signals) cycles 0 5 (drop (x .next) after-cycles) (omega arith))))
+
+-- A REFUSED TAKE FILE NAMES A LINE UP TO 261
+pub take-refused-line : (file : List ℕ) (e : Reason) (n : ℕ) → parseTake file ≡ refused e n → n ≤ 261
+take-refused-line file e n q = refused-line 261 (parseTake file) (refused-by file) e n q
+
+pub take-outcome-line : (file : List ℕ) (x : Refusal) → outcomeOf 2 (parseTake file) ≡ Refused x → x .line ≤ 261
+take-outcome-line file x q = outcome-line 261 (parseTake file) (refused-by file) 2 x q

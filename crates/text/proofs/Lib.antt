@@ -6,3 +6,4 @@ pub mod DigitLines
 pub mod Counts
 pub mod Headers
 pub mod Elements
+pub mod RefusedLines
