@@ -1,0 +1,2 @@
+// The text that program `judge` prints.
+pub mod verdict;
