@@ -21,7 +21,7 @@ use Rattle.text.proofs.Searching.{clash}
 use Rattle.text.proofs.Lines.{line-read}
 use Rattle.text.proofs.Counts.{count-read}
 
--- where a file is refused, the line is `most` or one before it
+-- where a file is refused, the line is `most` or an earlier one
 abbrev pub RefusedBy : {A : Type 0} → ℕ → Result A → Type 0
 RefusedBy most (accepted x) = Unit {0}
 RefusedBy most (refused e n) = n ≤ most
