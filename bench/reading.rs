@@ -1,0 +1,73 @@
+// What the files have in common, for the plain-Rust programs of this folder: numbers, lines, counts, refusals.
+const MOST_BYTES: usize = 65536;
+
+/// Why a file is turned back: 01's number, and the line, from 1 (0 where no line is at fault).
+#[derive(Debug)]
+pub struct Fault {
+    pub reason: u32,
+    pub line: usize,
+}
+
+pub fn number(text: &str) -> Option<usize> {
+    let digits = text.bytes().all(|b| b.is_ascii_digit());
+    if text.is_empty() || text.len() > 5 || !digits || (text.len() > 1 && text.starts_with('0')) {
+        return None;
+    }
+    text.parse().ok()
+}
+
+/// The lines of a file, taken from the front.
+pub struct Lines<'a> {
+    rest: &'a [u8],
+    line: usize,
+}
+
+impl<'a> Lines<'a> {
+    pub fn new(file: &'a [u8]) -> Result<Self, Fault> {
+        if file.len() > MOST_BYTES {
+            return Err(Fault { reason: 1, line: 0 });
+        }
+        Ok(Lines { rest: file, line: 0 })
+    }
+
+    /// A fault of the line that was taken last.
+    pub fn fault(&self, reason: u32) -> Fault {
+        Fault { reason, line: self.line }
+    }
+
+    fn take_line(&mut self) -> Option<(&'a str, &'a str)> {
+        self.line += 1;
+        let end = self.rest.iter().position(|&b| b == b'\n')?;
+        let text = std::str::from_utf8(&self.rest[..end]).ok()?;
+        self.rest = &self.rest[end + 1..];
+        text.split_once('=')
+    }
+
+    /// The value of the next line, which must have this key.
+    pub fn value(&mut self, key: &str) -> Result<&'a str, Fault> {
+        match self.take_line() {
+            Some((k, value)) if k == key => Ok(value),
+            _ => Err(self.fault(2)),
+        }
+    }
+
+    /// The value of the next line, whose key must be this letter and this number.
+    pub fn numbered(&mut self, letter: char, n: usize) -> Result<&'a str, Fault> {
+        match self.take_line() {
+            Some((k, value)) if k.strip_prefix(letter).and_then(number) == Some(n) => Ok(value),
+            _ => Err(self.fault(2)),
+        }
+    }
+
+    /// A number from 1 to `most`; out of range it is refused for this reason.
+    pub fn count(&mut self, key: &str, most: usize, reason: u32) -> Result<usize, Fault> {
+        let n = number(self.value(key)?).ok_or(self.fault(2))?;
+        if (1..=most).contains(&n) { Ok(n) } else { Err(self.fault(reason)) }
+    }
+
+    /// Nothing follows the last line.
+    pub fn end(mut self) -> Result<(), Fault> {
+        self.line += 1;
+        if self.rest.is_empty() { Ok(()) } else { Err(self.fault(2)) }
+    }
+}
