@@ -15,7 +15,7 @@ fn main() {
             let rows = rule::normal(&rule.rows, false);
             write!(out, "format=1\nsignals={}\nrows={}\n", rule.signals, rows.len()).unwrap();
             for (i, row) in rows.iter().enumerate() {
-                write!(out, "r{}={}", i + 1, row.kind.word()).unwrap();
+                write!(out, "r{}={}", i + 1, rule::KINDS[row.kind as usize].1).unwrap();
                 for n in row.numbers() {
                     write!(out, " {n}").unwrap();
                 }

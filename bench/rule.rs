@@ -21,7 +21,7 @@ pub enum Kind {
 use self::Kind::*;
 
 // kind (each at its own place), word, how many numbers, whether they are operands, partner
-const KINDS: [(Kind, &str, usize, bool, Kind); 14] = [
+pub const KINDS: [(Kind, &str, usize, bool, Kind); 14] = [
     (True, "true", 0, false, False),
     (False, "false", 0, false, True),
     (Sig, "sig", 1, false, Nsig),
@@ -39,10 +39,6 @@ const KINDS: [(Kind, &str, usize, bool, Kind); 14] = [
 ];
 
 impl Kind {
-    pub fn word(self) -> &'static str {
-        KINDS[self as usize].1
-    }
-
     pub fn partner(self) -> Kind {
         KINDS[self as usize].4
     }
