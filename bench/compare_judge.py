@@ -31,9 +31,16 @@ def random_row(k, rows, signals):
 
 
 def random_rule(signals, most):
-    rows = random.choice([1, 2, 3, 5, 8, most, random.randint(1, most)])
-    lines = [f'r{k}={random_row(k, rows, signals)}\n' for k in range(1, rows + 1)]
-    return bytearray(f'format=1\nsignals={signals}\nrows={rows}\n{"".join(lines)}'.encode())
+    """Half of the rules have few rows and ask again at later cycles, so that the take's end and the loop weigh."""
+    later = random.random() < .5
+    rows = random.randint(3, 9) if later else random.choice([1, 2, 3, 5, 8, most, random.randint(1, most)])
+    table = [random_row(k, rows, signals) for k in range(1, rows + 1)]
+    if later:
+        table += [f'{random.choice(["sig", "nsig"])} {random.randint(1, signals)}', f'{random.choice(["or", "and"])} {rows} {rows + 1}']
+        for word in random.choice([['always'], ['ever'], ['next'], ['next', 'next'], ['always', 'ever'], ['ever', 'always']]):
+            table.append(f'{word} {len(table)}')
+    lines = [f'r{k}={row}\n' for k, row in enumerate(table, 1)]
+    return bytearray(f'format=1\nsignals={signals}\nrows={len(table)}\n{"".join(lines)}'.encode())
 
 
 def random_take(signals, most):
