@@ -36,7 +36,8 @@ def random_rule(signals, most):
     rows = random.randint(3, 9) if later else random.choice([1, 2, 3, 5, 8, most, random.randint(1, most)])
     table = [random_row(k, rows, signals) for k in range(1, rows + 1)]
     if later:
-        table += [f'{random.choice(["sig", "nsig"])} {random.randint(1, signals)}', f'{random.choice(["or", "and"])} {rows} {rows + 1}']
+        table.append(f'{random.choice(["sig", "nsig"])} {random.randint(1, signals)}')
+        table.append(f'{random.choice(["or", "and"])} {rows} {rows + 1}')
         for word in random.choice([['always'], ['ever'], ['next'], ['next', 'next'], ['always', 'ever'], ['ever', 'always']]):
             table.append(f'{word} {len(table)}')
     lines = [f'r{k}={row}\n' for k, row in enumerate(table, 1)]

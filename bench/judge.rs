@@ -4,6 +4,8 @@
 //   --definition  judges by the quantifiers of 01's meaning (definition.rs); slow, for checking the usual way
 //   --repeat N    does the whole work from the bytes to the text N times, for measuring
 // Test:  rustc -O --test -o target/bench-judge-test bench/judge.rs && target/bench-judge-test
+#![forbid(unsafe_code)]
+
 mod definition;
 mod reading;
 mod rule;

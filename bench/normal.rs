@@ -1,5 +1,7 @@
 // The job of the program `normal` a second time, in plain Rust, for comparison: reads rule.txt, writes the normal form's file.
 // Build: rustc -O -o target/bench-normal bench/normal.rs
+#![forbid(unsafe_code)]
+
 mod reading;
 mod rule;
 

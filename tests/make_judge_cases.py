@@ -16,8 +16,8 @@ HERE = os.path.join(os.path.dirname(os.path.abspath(__file__)), '..', 'crates', 
 sys.setrecursionlimit(10000)
 
 
-def root_holds(rows, cycles, loop):
-    """Whether the last row is true at cycle 0; on an open take (loop None) strongly, and the rows must be a normal form."""
+def truth(rows, cycles, loop):
+    """A function that says whether row k is true at cycle i; on an open take (loop None) strongly, for rows of a normal form."""
     split = [(r.split()[0], [int(n) for n in r.split()[1:]]) for r in rows]
 
     def after(i):
@@ -59,13 +59,17 @@ def root_holds(rows, cycles, loop):
             return walk(i, b, a, word == 'weak')
         return walk(i, lambda j: a(j) and b(j), b, word == 'release')
 
-    return holds(len(rows), 0)
+    return holds
+
+
+def root_holds(rows, cycles, loop):
+    return truth(rows, cycles, loop)(len(rows), 0)
 
 
 def verdict(rows, cycles, loop):
     if loop is not None:
         return 'holds' if root_holds(rows, cycles, loop) else 'breaks'
-    kept, broken = (root_holds(tuple(normal(rows, plain)), cycles, None) for plain in (True, False))
+    kept, broken = (root_holds(normal(rows, plain), cycles, None) for plain in (True, False))
     assert not (kept and broken)
     return 'kept' if kept else 'broken' if broken else 'open'
 
