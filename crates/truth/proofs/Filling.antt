@@ -76,6 +76,11 @@ pub loop-further : (ending : Ending) (n m : ℕ) → n ≤ m → LoopBelow n end
 loop-further Open n m h b = tt
 loop-further (Loop l) n m h b = omega arith
 
+-- the line of a row, from what its kind's line shows
+module _ (n : ℕ) (ending : Ending) (signals bits : ℕ → ℕ → Bool) {line found : Line} (e : line ≡ found) where
+  pub row-shown : {r s : Row} → r ≡ s → Shows n found (rowPass n ending signals bits s) → Shows n line (rowPass n ending signals bits r)
+  row-shown {r} {s} q x = subst (λ y. Shows n line (rowPass n ending signals bits y)) (sym q) (e ∙ x)
+
 -- the bits computed to the end of a prefix end with it
 prefix-bits-end : (n : ℕ) (w : InfiniteTrace) (t : Table) (k : ℕ) → Ends n (bitsOf (cyclesBelow n) (prefix n w) (toEnd n w) t k)
 unfolding bitsOf bitsWithin

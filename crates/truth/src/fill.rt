@@ -33,24 +33,6 @@ fn run_of(cycles: u16, ending: Ending) -> Run
     }
 }
 
-// The line of a row, from the signals' lines and those of earlier rows.
-fn row_line(row: Row, signals: [Line; 32], rows: [Line; 128], run: Run) -> Line
-    requires { ⌜ LoopBelow 256 (run .ending) × Each (λ a. (1 ≤ a) × (a ≤ 128)) row × EachSignal (λ s. (1 ≤ s) × (s ≤ 32)) row ⌝ }
-    ensures { λ r. ⌜ ((n : ℕ) (bits : ℕ → ℕ → Bool) → RunOf n run → Each (λ a. Shows n (lineIn rows (a - 1)) (bits a)) row → Shows n r (rowPass n (run .ending) (bitIn signals) bits row)) ⌝ }
-{
-    match row {
-        Row::Constant(kind) => row::constant(kind, run),
-        Row::Signal(kind, s) => row::signal(kind, signals[s as usize - 1], run),
-        Row::Unary(kind, a) => row::unary(kind, rows[a as usize - 1], run),
-        Row::Binary(kind, a, b) => row::binary(
-            kind,
-            rows[a as usize - 1],
-            rows[b as usize - 1],
-            run,
-        ),
-    }
-}
-
 // Operands are earlier rows, so one pass over the rows is enough; how a row is computed over all cycles at once is `row`'s. Each row
 // costs a fixed number of operations on four words, whatever its operands.
 pub fn fill(form: NormalForm, trace: Trace) -> Truth
@@ -66,7 +48,17 @@ pub fn fill(form: NormalForm, trace: Trace) -> Truth
     while k < count {
         let place = form.places[k];
         let row = place.row;
-        rows[k] = row_line(row, signals, rows, run);
+        rows[k] = match row {
+            Row::Constant(kind) => row::constant(kind, run),
+            Row::Signal(kind, s) => row::signal(kind, signals[s as usize - 1], run),
+            Row::Unary(kind, a) => row::unary(kind, rows[a as usize - 1], run),
+            Row::Binary(kind, a, b) => row::binary(
+                kind,
+                rows[a as usize - 1],
+                rows[b as usize - 1],
+                run,
+            ),
+        };
         k += 1;
     }
     Truth { lines: rows }
