@@ -1,0 +1,3 @@
+pub mod Monitor
+pub mod Run
+pub mod Sheet
