@@ -60,9 +60,26 @@ binaryMonitor Until A B s = awaits (goes s && not B) ((goes s && not B) && not A
 binaryMonitor Release A B s = waits (goes s && not A) (goes s && not B)
 binaryMonitor Srelease A B s = awaits (goes s && not A) (goes s && not B)
 
--- the monitor of a row, from all rows' activators and the signals in the cycle, both by their numbers
+-- the monitor of a row, from what stands at its numbers: the signal, or the activators of its operands
+abbrev pub rowMonitor : Row → Bool → Bool → State → Output
+rowMonitor (Constant c) first second s = constantMonitor c s
+rowMonitor (Signal c n) first second s = signalMonitor c first s
+rowMonitor (Unary c a) first second s = unaryMonitor c first s
+rowMonitor (Binary c a b) first second s = binaryMonitor c first second s
+
+-- what stands at a row's numbers in a cycle with these activators and signals, each by its number
+abbrev pub firstOf : (ℕ → Bool) → (ℕ → Bool) → Row → Bool
+firstOf act signals (Constant c) = false
+firstOf act signals (Signal c n) = signals n
+firstOf act signals (Unary c a) = act a
+firstOf act signals (Binary c a b) = act a
+
+abbrev pub secondOf : (ℕ → Bool) → Row → Bool
+secondOf act (Constant c) = false
+secondOf act (Signal c n) = false
+secondOf act (Unary c a) = false
+secondOf act (Binary c a b) = act b
+
+-- the monitor of a row, from all rows' activators and the signals in the cycle
 abbrev pub monitor : (ℕ → Bool) → (ℕ → Bool) → Row → State → Output
-monitor act signals (Constant c) s = constantMonitor c s
-monitor act signals (Signal c n) s = signalMonitor c (signals n) s
-monitor act signals (Unary c a) s = unaryMonitor c (act a) s
-monitor act signals (Binary c a b) s = binaryMonitor c (act a) (act b) s
+monitor act signals r s = rowMonitor r (firstOf act signals r) (secondOf act r) s

@@ -1,10 +1,11 @@
 // Monitors of the rows of a normal form (01, "Monitors"): what each says in one cycle.
 use tables::row::BinaryKind;
 use tables::row::ConstantKind;
+use tables::row::Row;
 use tables::row::SignalKind;
 use tables::row::UnaryKind;
 ghost use mathlib.Core.Path.{_≡_};
-ghost use Rattle.monitors.specs.Monitor.{awaits as awaitsOf, binaryMonitor, checks as checksOf, constantMonitor, signalMonitor, unaryMonitor, waits as waitsOf};
+ghost use Rattle.monitors.specs.Monitor.{awaits as awaitsOf, binaryMonitor, checks as checksOf, constantMonitor, rowMonitor, signalMonitor, unaryMonitor, waits as waitsOf};
 
 // What a monitor says in one cycle.
 pub struct Output {
@@ -91,5 +92,18 @@ pub fn binary(kind: BinaryKind, a: bool, b: bool, state: State) -> Output
         BinaryKind::Until => awaits(goes & !b, goes & !b & !a),
         BinaryKind::Release => waits(goes & !a, goes & !b),
         BinaryKind::Srelease => awaits(goes & !a, goes & !b),
+    }
+}
+
+// The monitor of a row. `first` and `second` are what stands at the row's numbers in this cycle: the signal, or the activators of
+// its operands; what it has no number for does not count.
+pub fn row(row: Row, first: bool, second: bool, state: State) -> Output
+    ensures { λ r. ⌜ r ≡ rowMonitor row first second state ⌝ }
+{
+    match row {
+        Row::Constant(kind) => constant(kind, state),
+        Row::Signal(kind, _) => signal(kind, first, state),
+        Row::Unary(kind, _) => unary(kind, first, state),
+        Row::Binary(kind, _, _) => binary(kind, first, second, state),
     }
 }
