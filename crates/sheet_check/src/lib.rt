@@ -1,0 +1,3 @@
+// Checking a sheet: its monitors are run along the take.
+pub mod finding;
+pub mod row;
