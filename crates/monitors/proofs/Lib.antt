@@ -1,1 +1,2 @@
 pub mod ByPattern
+pub mod Soundness
