@@ -1,2 +1,3 @@
 pub mod ByPattern
 pub mod Soundness
+pub mod Made
