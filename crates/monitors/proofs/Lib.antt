@@ -1,3 +1,4 @@
 pub mod ByPattern
 pub mod Soundness
 pub mod Made
+pub mod Locality

@@ -1,0 +1,42 @@
+-- What a row's monitor says below cycle n depends only on the row's own activators, its operands' and the signal that it names, all
+-- below n (output-local, pending-local). Assumes nothing.
+use Prim.Native.Nat.{ℕ, zero, suc, _≤_, _<_}
+use mathlib.Core.Path.{_≡_, refl, ap, ap₂, _∙_}
+use mathlib.Core.Bool.{Bool}
+use native.Mathlib.Omega.{arith}
+use Rattle.tables.specs.declared.row.Row.{Row}
+use Rattle.tables.specs.declared.row.Row.the-variants.{Constant, Signal, Unary, Binary}
+use Rattle.meaning.specs.Trace.{InfiniteTrace}
+use Rattle.meaning.specs.Satisfaction.{Table}
+use Rattle.meaning.proofs.Rows.{Each, each-map, EachSignal, Ordered}
+use Rattle.meaning.proofs.Locality.{SameSignals}
+use Rattle.monitors.specs.declared.State.{State}
+use Rattle.monitors.specs.Monitor.{constantMonitor, signalMonitor, unaryMonitor, binaryMonitor, monitor}
+use Rattle.monitors.specs.Run.{Activators, pendingBefore, output}
+
+monitor-local :
+    (act act′ signals signals′ : ℕ → Bool) (r : Row) (s : State) → Each (λ a. act a ≡ act′ a) r → EachSignal (λ n. signals n ≡ signals′ n) r
+    → monitor act signals r s ≡ monitor act′ signals′ r s
+monitor-local act act′ signals signals′ (Constant c) s e g = refl
+monitor-local act act′ signals signals′ (Signal c n) s e g = ap (λ x. signalMonitor c x s) g
+monitor-local act act′ signals signals′ (Unary c a) s e g = ap (λ x. unaryMonitor c x s) e
+monitor-local act act′ signals signals′ (Binary c a b) s e g = ap₂ (λ x y. binaryMonitor c x y s) (e .0) (e .1)
+
+-- both runs have the same activators of the rows below m in cycle i
+abbrev pub SameActivators : ℕ → Activators → Activators → ℕ → Type 0
+SameActivators m act act′ i = (k : ℕ) → k < m → act i k ≡ act′ i k
+
+module _ (t : Table) (m : ℕ) (ordered : Ordered m t) (w w′ : InfiniteTrace) (act act′ : Activators) (n : ℕ)
+    (signals : (i : ℕ) → i < n → SameSignals m t w w′ i) (activators : (i : ℕ) → i < n → SameActivators m act act′ i) (k : ℕ) (k<m : k < m) where
+  step : (i : ℕ) → i < n → pendingBefore t w act i k ≡ pendingBefore t w′ act′ i k → output t w act i k ≡ output t w′ act′ i k
+  step i l e =
+      monitor-local (act i) (act′ i) (w i) (w′ i) (t k) _ (each-map _ _ (λ a x. activators i l a (omega arith)) (t k) (ordered k k<m)) (signals i l k k<m)
+      ∙ ap₂ (λ z y. monitor (act′ i) (w′ i) (t k) (record { active = z; pending = y })) (activators i l k k<m) e
+
+  pub pending-local : (i : ℕ) → i ≤ n → pendingBefore t w act i k ≡ pendingBefore t w′ act′ i k
+  unfolding pendingBefore
+  pending-local zero l = refl
+  pending-local (suc i) l = ap (λ o. o .pending) (step i l (pending-local i (omega arith)))
+
+  pub output-local : (i : ℕ) → i < n → output t w act i k ≡ output t w′ act′ i k
+  output-local i l = step i l (pending-local i (omega arith))
