@@ -2,3 +2,4 @@ pub mod ByPattern
 pub mod Soundness
 pub mod Made
 pub mod Locality
+pub mod Sheets

@@ -8,10 +8,9 @@ use Rattle.tables.specs.declared.row.Row.{Row}
 use Rattle.tables.specs.declared.row.Row.the-variants.{Constant, Signal, Unary, Binary}
 use Rattle.meaning.specs.Trace.{InfiniteTrace}
 use Rattle.meaning.specs.Satisfaction.{Table}
-use Rattle.meaning.proofs.Rows.{Each, each-map, EachSignal, Ordered}
-use Rattle.meaning.proofs.Locality.{SameSignals}
+use Rattle.meaning.proofs.Rows.{Each, each-map, EachSignal}
 use Rattle.monitors.specs.declared.State.{State}
-use Rattle.monitors.specs.Monitor.{constantMonitor, signalMonitor, unaryMonitor, binaryMonitor, monitor}
+use Rattle.monitors.specs.Monitor.{signalMonitor, unaryMonitor, binaryMonitor, monitor}
 use Rattle.monitors.specs.Run.{Activators, pendingBefore, output}
 
 monitor-local :
@@ -22,16 +21,14 @@ monitor-local act act′ signals signals′ (Signal c n) s e g = ap (λ x. signa
 monitor-local act act′ signals signals′ (Unary c a) s e g = ap (λ x. unaryMonitor c x s) e
 monitor-local act act′ signals signals′ (Binary c a b) s e g = ap₂ (λ x y. binaryMonitor c x y s) (e .0) (e .1)
 
--- both runs have the same activators of the rows below m in cycle i
-abbrev pub SameActivators : ℕ → Activators → Activators → ℕ → Type 0
-SameActivators m act act′ i = (k : ℕ) → k < m → act i k ≡ act′ i k
-
-module _ (t : Table) (m : ℕ) (ordered : Ordered m t) (w w′ : InfiniteTrace) (act act′ : Activators) (n : ℕ)
-    (signals : (i : ℕ) → i < n → SameSignals m t w w′ i) (activators : (i : ℕ) → i < n → SameActivators m act act′ i) (k : ℕ) (k<m : k < m) where
+-- a set P of rows that has the operands of its rows
+module _ (t : Table) (P : ℕ → Type 0) (closed : (k : ℕ) → P k → Each P (t k)) (w w′ : InfiniteTrace) (act act′ : Activators) (n : ℕ)
+    (same-signals : (i : ℕ) → i < n → (k : ℕ) → P k → EachSignal (λ s. w i s ≡ w′ i s) (t k))
+    (same-activators : (i : ℕ) → i < n → (k : ℕ) → P k → act i k ≡ act′ i k) (k : ℕ) (in-set : P k) where
   step : (i : ℕ) → i < n → pendingBefore t w act i k ≡ pendingBefore t w′ act′ i k → output t w act i k ≡ output t w′ act′ i k
   step i l e =
-      monitor-local (act i) (act′ i) (w i) (w′ i) (t k) _ (each-map _ _ (λ a x. activators i l a (omega arith)) (t k) (ordered k k<m)) (signals i l k k<m)
-      ∙ ap₂ (λ z y. monitor (act′ i) (w′ i) (t k) (record { active = z; pending = y })) (activators i l k k<m) e
+      monitor-local (act i) (act′ i) (w i) (w′ i) (t k) _ (each-map _ _ (same-activators i l) (t k) (closed k in-set)) (same-signals i l k in-set)
+      ∙ ap₂ (λ z y. monitor (act′ i) (w′ i) (t k) (record { active = z; pending = y })) (same-activators i l k in-set) e
 
   pub pending-local : (i : ℕ) → i ≤ n → pendingBefore t w act i k ≡ pendingBefore t w′ act′ i k
   unfolding pendingBefore

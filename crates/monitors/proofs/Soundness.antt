@@ -18,9 +18,8 @@ use Rattle.meaning.proofs.Pattern.{Pattern, Pattern.now, Pattern.next, Pattern.
 use Rattle.meaning.proofs.MeaningByPattern.{holds-map, interprets-pattern}
 use Rattle.meaning.proofs.PatternBits.{keepBit, goalBit, connectiveBit, operandBits, keep-iff, goal-iff, connective-iff, signal-iff}
 use Rattle.monitors.specs.declared.Output.{Output}
-use Rattle.monitors.specs.declared.State.{State}
 use Rattle.monitors.specs.Monitor.{monitor}
-use Rattle.monitors.specs.Run.{Activators, pendingBefore, output}
+use Rattle.monitors.specs.Run.{Activators, pendingBefore}
 use Rattle.monitors.proofs.ByPattern.{doneBit, needBit, patternMonitor, monitor-by-pattern}
 
 -- ---- Bools
