@@ -3,3 +3,4 @@ pub mod Soundness
 pub mod Made
 pub mod Locality
 pub mod Sheets
+pub mod Periods
