@@ -4,3 +4,4 @@ pub mod Made
 pub mod Locality
 pub mod Sheets
 pub mod Periods
+pub mod Facts
