@@ -80,13 +80,13 @@ module _ (g : NormalForm) (operands : (k : ℕ) → k < suc (g .rows) → Each (
         looped-passing-true = lasso-passing (t .cycles) l l<n (signalAt t) table (suc (g .rows)) (g .rows) (omega arith) ordered positive (activatorAt a) lasso-passes
 
         -- every row is true wherever the sheet has it active
-        pub looped-passing-rows : (R : Reading) (k : ℕ) → IsRow g k → (c : ℕ) → c < t .cycles → On (activatorAt a c k) → RowTrue R (unrolled t l) table k c
+        pub looped-passing-rows : (R : Reading) (k : ℕ) → IsRow g k → (c : ℕ) → c < t .cycles → On (activatorAt a c k) → RowTrue R (unrolled t l) (tableOf (g .places)) k c
         looped-passing-rows R k h c b on = lasso-passing-active (t .cycles) l l<n (signalAt t) table (suc (g .rows)) (g .rows) (omega arith) ordered positive (activatorAt a) lasso-passes R k (omega (arith, h .1)) c
             (ap (λ i. activatorAt a i k) (position-first (t .cycles) l c b) ∙ on)
 
       -- the sheet has where each row is true
       pub looped-true-passing :
-          (R : Reading) → ((k : ℕ) → IsRow g k → (c : ℕ) → c < t .cycles → (activatorAt a c k ≡ true) ↔ RowTrue R (unrolled t l) table k c)
+          (R : Reading) → ((k : ℕ) → IsRow g k → (c : ℕ) → c < t .cycles → (activatorAt a c k ≡ true) ↔ RowTrue R (unrolled t l) (tableOf (g .places)) k c)
           → SatisfiesNormal R (unrolled t l) g → PassesLooped g t l a
       unfolding withTrue
       looped-true-passing R tells satisfied = record {
@@ -117,17 +117,17 @@ module _ (g : NormalForm) (operands : (k : ℕ) → k < suc (g .rows) → Each (
         }
 
         -- in any reading
-        pub open-passing-true : (R : Reading) → RowStronglyTrue R (t .cycles) (signalAt t) table (g .rows) 0
+        pub open-passing-true : (R : Reading) → RowStronglyTrue R (t .cycles) (signalAt t) (tableOf (g .places)) (g .rows) 0
         open-passing-true = prefix-passing (t .cycles) (signalAt t) table n>0 (suc (g .rows)) (g .rows) (omega arith) ordered positive (activatorAt a) prefix-passes
 
-        pub open-passing-rows : (R : Reading) (k : ℕ) → IsRow g k → (c : ℕ) → c < t .cycles → On (activatorAt a c k) → RowStronglyTrue R (t .cycles) (signalAt t) table k c
+        pub open-passing-rows : (R : Reading) (k : ℕ) → IsRow g k → (c : ℕ) → c < t .cycles → On (activatorAt a c k) → RowStronglyTrue R (t .cycles) (signalAt t) (tableOf (g .places)) k c
         open-passing-rows R k h = prefix-passing-active (t .cycles) (signalAt t) table n>0 (suc (g .rows)) (g .rows) (omega arith) ordered positive (activatorAt a) prefix-passes R k (omega (arith, h .1))
 
       -- the sheet has where each row is strongly true
       pub open-true-passing :
           (R : Reading)
-          → ((k : ℕ) → IsRow g k → (c : ℕ) → c < t .cycles → (activatorAt a c k ≡ true) ↔ RowStronglyTrue R (t .cycles) (signalAt t) table k c)
-          → RowStronglyTrue R (t .cycles) (signalAt t) table (g .rows) 0 → PassesOpen g t a
+          → ((k : ℕ) → IsRow g k → (c : ℕ) → c < t .cycles → (activatorAt a c k ≡ true) ↔ RowStronglyTrue R (t .cycles) (signalAt t) (tableOf (g .places)) k c)
+          → RowStronglyTrue R (t .cycles) (signalAt t) (tableOf (g .places)) (g .rows) 0 → PassesOpen g t a
       unfolding withTrue
       open-true-passing R tells satisfied = record {
         root-set = sym (with-same (activatorAt a) 0 (g .rows) some) ∙ passes .root-set;
@@ -151,7 +151,7 @@ module _ (g : NormalForm) (t : Trace) (a : Activation) (l : ℕ) (l<n : l < t .c
   pub looped-output-periodic : (i k : ℕ) → t .cycles ≤ i → loopedOutput g t l a (i + (t .cycles - l)) k ≡ loopedOutput g t l a i k
   looped-output-periodic i k h = lasso-output-periodic (t .cycles) l l<n (signalAt t) (tableOf (g .places)) (activatorAt a) k i h
 
-  -- no fail in the take and two rounds of its loop, and an accept in the second round
+  -- no fail in the take and one more round of its loop, and an accept in that round or later
   pub looped-checked-passing :
       activatorAt a 0 (g .rows) ≡ true → ((i k : ℕ) → i < t .cycles + (t .cycles - l) → IsRow g k → loopedOutput g t l a i k .failed ≡ false)
       → ((k : ℕ) → IsRow g k → (i : ℕ) × (t .cycles ≤ i) × (loopedOutput g t l a i k .accept ≡ true)) → PassesLooped g t l a
