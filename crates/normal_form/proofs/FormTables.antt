@@ -21,7 +21,7 @@ use Rattle.rule_file.specs.Row.{isSignal, inRange}
 use Rattle.rule_file.specs.Rule.{inPlace, unused}
 use Rattle.rule_file.proofs.RowValues.{signal-most}
 use Rattle.meaning.specs.Satisfaction.{Table, tableOf}
-use Rattle.meaning.proofs.Rows.{Each, each-map, EachSignal, Ordered, Positive}
+use Rattle.meaning.proofs.Rows.{Each, each-map, EachSignal, each-signal-map, Ordered, Positive}
 use Rattle.normal_form.specs.Operand.{rowIn, isNot}
 use Rattle.normal_form.specs.Form.{formRows, InNormalForm}
 use Rattle.normal_form.proofs.Operands.{range-below}
@@ -74,3 +74,10 @@ module _ (g : NormalForm) (ok : InNormalForm g) where
   pub form-positive : (k : ℕ) → k < suc (g .rows) → Positive (tableOf (g .places) k)
   form-positive zero h = tt
   form-positive (suc j) h = positive-row (rowIn (g .places) j) (used-each (λ k r. isNot r ≡ false) (λ k. refl) (g .rows) (g .places) (ok .no-not) j (omega arith))
+
+  -- the numbers in the row of place k have their places
+  pub row-operands : (k : ℕ) → k < g .rows → Each (λ a. (1 ≤ a) × (a ≤ 128)) (tableOf (g .places) (suc k))
+  row-operands k h = each-map _ _ (λ a x. (x .0, omega (arith, x .1, ok .most-rows))) (tableOf (g .places) (suc k)) (form-operands (suc k) (omega arith))
+
+  pub row-signals : (k : ℕ) → k < g .rows → EachSignal (λ s. (1 ≤ s) × (s ≤ 32)) (tableOf (g .places) (suc k))
+  row-signals k h = each-signal-map _ _ (tableOf (g .places) (suc k)) (λ s x. (x .0, omega (arith, x .1, ok .most-signals))) (form-signals (suc k) (omega arith))

@@ -1,1 +1,2 @@
 pub mod RowRun
+pub mod Survey

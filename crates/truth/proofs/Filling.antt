@@ -23,7 +23,7 @@ use Rattle.meaning.specs.Satisfaction.{Table, tableOf, RowTrue}
 use Rattle.meaning.specs.Strong.{RowStronglyTrue}
 use Rattle.meaning.proofs.Truth.{everyCycle}
 use Rattle.meaning.proofs.Readings.{On}
-use Rattle.meaning.proofs.Rows.{Each, each-map, EachSignal, each-signal-map, Ordered, Positive}
+use Rattle.meaning.proofs.Rows.{Each, each-map, Ordered, Positive}
 use Rattle.meaning.proofs.Periodic.{position-first}
 use Rattle.meaning.proofs.Evaluation.{bitsWithin, bitsOf, bits-computed}
 use Rattle.meaning.proofs.PatternBits.{rowBit}
@@ -31,7 +31,7 @@ use Rattle.meaning.proofs.Lasso.{twoRounds, lasso, lasso-bits-computed, lasso-t
 use Rattle.meaning.proofs.StrongTruth.{cyclesBelow}
 use Rattle.meaning.proofs.Prefix.{prefix, toEnd, prefix-truth}
 use Rattle.normal_form.specs.Form.{InNormalForm}
-use Rattle.normal_form.proofs.FormTables.{form-operands, form-ordered, form-signals, form-positive}
+use Rattle.normal_form.proofs.FormTables.{form-ordered, form-positive}
 use Rattle.lines.specs.Word.{Ends}
 use Rattle.truth.specs.Run.{Shows}
 use Rattle.truth.specs.Pass.{rowPass}
@@ -87,13 +87,6 @@ unfolding bitsOf bitsWithin
 prefix-bits-end n w t k i h = ap (λ b. b && rowBit (prefix n w) (toEnd n w) (bitsWithin (cyclesBelow n) (prefix n w) (toEnd n w) t k) (t k) i) (le-ltb i n h)
 
 module _ (g : NormalForm) (t : Trace) (ok : InNormalForm g) where
-  -- the numbers in a row have their places
-  pub row-numbers : (k : ℕ) → k < g .rows → Each (λ a. (1 ≤ a) × (a ≤ 128)) (tableOf (g .places) (suc k)) × EachSignal (λ s. (1 ≤ s) × (s ≤ 32)) (tableOf (g .places) (suc k))
-  row-numbers k h = (
-    each-map _ _ (λ a x. (x .0, omega (arith, x .1, ok .most-rows))) (tableOf (g .places) (suc k)) (form-operands g ok (suc k) (omega arith)),
-    each-signal-map _ _ (tableOf (g .places) (suc k)) (λ s x. (x .0, omega (arith, x .1, ok .most-signals))) (form-signals g ok (suc k) (omega arith)),
-  )
-
   -- ALL ROWS FILLED, EACH LINE TELLS WHERE ITS ROW IS TRUE
   pub filled-tells :
       (ending : Ending) → LoopBelow (t .cycles) ending → (lines : List Line) → FilledTo (t .cycles) ending (signalAt t) (tableOf (g .places)) (suc (g .rows)) (g .rows) lines

@@ -1,8 +1,8 @@
 use Prim.Native.Nat.{_≤_}
 use mathlib.Core.Logic.{⊎-elim}
 use Rattle.meaning.proofs.Rows.{Each, EachSignal}
-use Rattle.normal_form.proofs.FormTables.{form-operands}
-use Rattle.truth.proofs.Filling.{loop-further, row-numbers, row-shown, earlier-shown, fill-enough}
+use Rattle.normal_form.proofs.FormTables.{form-operands, row-operands, row-signals}
+use Rattle.truth.proofs.Filling.{loop-further, row-shown, earlier-shown, fill-enough}
 use borrow.Author.Needs.{needs}
 use mathlib.Core.Path.{_≡_, refl, sym, ap, _∙_, subst}
 use Prim.Native.Nat.{ℕ, suc, _-_}
@@ -33,31 +33,31 @@ element-copy-out-place : tie.Need-element-copy-out-place Inv-loop μ-loop
 element-copy-out-place c = omega (arith, c .before .before .before .before .pre .0 .most-rows)
 
 sub-signal : tie.Need-sub-signal Inv-loop μ-loop
-sub-signal c = subst (EachSignal (λ s. (1 ≤ s) × (s ≤ 32))) (c .before .row2 .given .1) (row-numbers (c .before .before .before .before .before .before .before .before .args .t1) (c .before .before .before .before .before .before .before .before .args .trace) (c .before .before .before .before .before .before .before .before .pre .0) (c .before .before .before .before .before .loop .k) (search needs) .1) .0
+sub-signal c = subst (EachSignal (λ s. (1 ≤ s) × (s ≤ 32))) (c .before .row2 .given .1) (row-signals (c .before .before .before .before .before .before .before .before .args .t1) (c .before .before .before .before .before .before .before .before .pre .0) (c .before .before .before .before .before .loop .k) (search needs)) .0
 
 array-copy-out-signal : tie.Need-array-copy-out-signal Inv-loop μ-loop
-array-copy-out-signal c = let e = subst (EachSignal (λ s. (1 ≤ s) × (s ≤ 32))) (c .before .row2 .given .1) (row-numbers (c .before .before .before .before .before .before .before .before .args .t1) (c .before .before .before .before .before .before .before .before .args .trace) (c .before .before .before .before .before .before .before .before .pre .0) (c .before .before .before .before .before .loop .k) (search needs) .1) in omega (arith, e .0, e .1)
+array-copy-out-signal c = let e = subst (EachSignal (λ s. (1 ≤ s) × (s ≤ 32))) (c .before .row2 .given .1) (row-signals (c .before .before .before .before .before .before .before .before .args .t1) (c .before .before .before .before .before .before .before .before .pre .0) (c .before .before .before .before .before .loop .k) (search needs)) in omega (arith, e .0, e .1)
 
 sub-unary : tie.Need-sub-unary Inv-loop μ-loop
-sub-unary c = subst (Each (λ a. (1 ≤ a) × (a ≤ 128))) (c .before .row3 .given .1) (row-numbers (c .before .before .before .before .before .before .before .before .args .t1) (c .before .before .before .before .before .before .before .before .args .trace) (c .before .before .before .before .before .before .before .before .pre .0) (c .before .before .before .before .before .loop .k) (search needs) .0) .0
+sub-unary c = subst (Each (λ a. (1 ≤ a) × (a ≤ 128))) (c .before .row3 .given .1) (row-operands (c .before .before .before .before .before .before .before .before .args .t1) (c .before .before .before .before .before .before .before .before .pre .0) (c .before .before .before .before .before .loop .k) (search needs)) .0
 
 array-copy-out-unary : tie.Need-array-copy-out-unary Inv-loop μ-loop
-array-copy-out-unary c = let e = subst (Each (λ a. (1 ≤ a) × (a ≤ 128))) (c .before .row3 .given .1) (row-numbers (c .before .before .before .before .before .before .before .before .args .t1) (c .before .before .before .before .before .before .before .before .args .trace) (c .before .before .before .before .before .before .before .before .pre .0) (c .before .before .before .before .before .loop .k) (search needs) .0) in omega (arith, e .0, e .1)
+array-copy-out-unary c = let e = subst (Each (λ a. (1 ≤ a) × (a ≤ 128))) (c .before .row3 .given .1) (row-operands (c .before .before .before .before .before .before .before .before .args .t1) (c .before .before .before .before .before .before .before .before .pre .0) (c .before .before .before .before .before .loop .k) (search needs)) in omega (arith, e .0, e .1)
 
 unary-requires : tie.Need-unary-requires Inv-loop μ-loop
 unary-requires c κs = loop-further (c .before .before .before .before .before .before .before .before .run-of .result .ending) (c .before .before .before .before .before .before .before .before .before .args .trace .cycles) 256 (c .before .before .before .before .before .before .before .before .before .pre .1 .most-cycles) (c .before .before .before .before .before .before .before .before .run-of .ensures .0 .loop-within)
 
 sub-binary : tie.Need-sub-binary Inv-loop μ-loop
-sub-binary c = subst (Each (λ a. (1 ≤ a) × (a ≤ 128))) (c .before .row4 .given .1) (row-numbers (c .before .before .before .before .before .before .before .before .args .t1) (c .before .before .before .before .before .before .before .before .args .trace) (c .before .before .before .before .before .before .before .before .pre .0) (c .before .before .before .before .before .loop .k) (search needs) .0) .0 .0
+sub-binary c = subst (Each (λ a. (1 ≤ a) × (a ≤ 128))) (c .before .row4 .given .1) (row-operands (c .before .before .before .before .before .before .before .before .args .t1) (c .before .before .before .before .before .before .before .before .pre .0) (c .before .before .before .before .before .loop .k) (search needs)) .0 .0
 
 array-copy-out-binary : tie.Need-array-copy-out-binary Inv-loop μ-loop
-array-copy-out-binary c = let e = subst (Each (λ a. (1 ≤ a) × (a ≤ 128))) (c .before .row4 .given .1) (row-numbers (c .before .before .before .before .before .before .before .before .args .t1) (c .before .before .before .before .before .before .before .before .args .trace) (c .before .before .before .before .before .before .before .before .pre .0) (c .before .before .before .before .before .loop .k) (search needs) .0) .0 in omega (arith, e .0, e .1)
+array-copy-out-binary c = let e = subst (Each (λ a. (1 ≤ a) × (a ≤ 128))) (c .before .row4 .given .1) (row-operands (c .before .before .before .before .before .before .before .before .args .t1) (c .before .before .before .before .before .before .before .before .pre .0) (c .before .before .before .before .before .loop .k) (search needs)) .0 in omega (arith, e .0, e .1)
 
 sub-binary-2 : tie.Need-sub-binary-2 Inv-loop μ-loop
-sub-binary-2 c = subst (Each (λ a. (1 ≤ a) × (a ≤ 128))) (c .before .before .row4 .given .1) (row-numbers (c .before .before .before .before .before .before .before .before .before .args .t1) (c .before .before .before .before .before .before .before .before .before .args .trace) (c .before .before .before .before .before .before .before .before .before .pre .0) (c .before .before .before .before .before .before .loop .k) (search needs) .0) .1 .0
+sub-binary-2 c = subst (Each (λ a. (1 ≤ a) × (a ≤ 128))) (c .before .before .row4 .given .1) (row-operands (c .before .before .before .before .before .before .before .before .before .args .t1) (c .before .before .before .before .before .before .before .before .before .pre .0) (c .before .before .before .before .before .before .loop .k) (search needs)) .1 .0
 
 array-copy-out-binary-2 : tie.Need-array-copy-out-binary-2 Inv-loop μ-loop
-array-copy-out-binary-2 c = let e = subst (Each (λ a. (1 ≤ a) × (a ≤ 128))) (c .before .before .row4 .given .1) (row-numbers (c .before .before .before .before .before .before .before .before .before .args .t1) (c .before .before .before .before .before .before .before .before .before .args .trace) (c .before .before .before .before .before .before .before .before .before .pre .0) (c .before .before .before .before .before .before .loop .k) (search needs) .0) .1 in omega (arith, e .0, e .1)
+array-copy-out-binary-2 c = let e = subst (Each (λ a. (1 ≤ a) × (a ≤ 128))) (c .before .before .row4 .given .1) (row-operands (c .before .before .before .before .before .before .before .before .before .args .t1) (c .before .before .before .before .before .before .before .before .before .pre .0) (c .before .before .before .before .before .before .loop .k) (search needs)) .1 in omega (arith, e .0, e .1)
 
 binary-requires : tie.Need-binary-requires Inv-loop μ-loop
 binary-requires c κs = loop-further (c .before .before .before .before .before .before .before .before .before .run-of .result .ending) (c .before .before .before .before .before .before .before .before .before .before .args .trace .cycles) 256 (c .before .before .before .before .before .before .before .before .before .before .pre .1 .most-cycles) (c .before .before .before .before .before .before .before .before .before .run-of .ensures .0 .loop-within)
