@@ -1,3 +1,4 @@
 pub mod Outcomes
 pub mod Verdicts
 pub mod Roots
+pub mod ByBits
