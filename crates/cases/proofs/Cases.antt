@@ -1,23 +1,58 @@
 -- Every case of the table is so, computed from the definitions. Assumes nothing.
 use mathlib.Core.Path.{refl}
+use mathlib.Core.List.{List, _∷_}
 use Rattle.tables.specs.Bytes.{sameBytes}
 use Rattle.tables.specs.Kind.{kinds, kindAt, dualOf}
 use Rattle.tables.specs.Place.{tabulateFrom}
+use Rattle.tables.specs.Bit.{bitAt, wordFrom, lineOf}
 use Rattle.text.specs.Search.{further, firstWhere}
 use Rattle.text.specs.Number.{digitsFrom, digitsOf, numberOf}
 use Rattle.text.specs.Line.{cutOf, isNumbered, keyedLine}
 use Rattle.text.specs.Count.{countForm}
+use Rattle.text.specs.Digits.{areDigits, digitsForm}
 use Rattle.text.specs.Body.{bodyLines}
 use Rattle.text.specs.Written.{decimalIn, decimal, writtenBody}
 use Rattle.rule_file.specs.Row.{kindNamed, formOf, rowForm, rowValue}
 use Rattle.rule_file.specs.Rule.{parseRule}
 use Rattle.rule_file.specs.Written.{writtenRule}
+use Rattle.take_file.specs.Ending.{endingValue}
+use Rattle.take_file.specs.Take.{parseTake}
+use Rattle.meaning.specs.Trace.{position}
+use Rattle.meaning.proofs.Streams.{approximant}
+use Rattle.meaning.proofs.Evaluation.{bitsWithin, bitsOf}
 use Rattle.normal_form.specs.Reach.{markedDown, reach}
 use Rattle.normal_form.specs.Numbering.{listing, normalListing, normalForm}
 use Rattle.writing.specs.Normal.{writtenNormal}
-use Rattle.cases.specs.Case.{Each, Says}
+use Rattle.judge_text.specs.Text.{verdictText}
+use Rattle.cases.specs.Case.{Case, Each, Each.none, Each.first, Says}
 use Rattle.cases.specs.Table.{cases}
+use Rattle.cases.proofs.Computed.{Computed, all-say}
+
+infixr 4 _also_
+_also_ : {x : Case} {xs : List Case} → Computed x → Each Computed xs → Each Computed (x ∷ xs)
+a also b = first a b
+
+-- row by row; of a verdict: the signals agree, the ending is what the service needs, and the bits give the verdict
+computed : Each Computed cases
+unfolding parseRule keyedLine cutOf firstWhere further sameBytes countForm numberOf digitsOf digitsFrom bodyLines isNumbered rowValue rowForm formOf kindNamed kinds kindAt dualOf tabulateFrom writtenRule writtenBody decimal decimalIn markedDown reach listing normalListing normalForm writtenNormal parseTake areDigits digitsForm endingValue bitAt wordFrom lineOf position approximant bitsWithin bitsOf verdictText
+computed =
+    refl
+    also (λ buf. (refl, refl))
+    also (refl, refl, refl)
+    also (refl, refl, refl)
+    also (refl, refl, refl)
+    also (refl, refl, refl)
+    also (refl, refl, refl)
+    also (refl, refl, refl)
+    also (refl, refl, refl)
+    also (refl, refl, refl)
+    also (refl, refl, refl)
+    also (refl, refl, refl)
+    also (refl, refl, refl)
+    also (refl, refl, refl)
+    also (refl, refl, refl)
+    also (refl, refl)
+    also none
 
 pub all-cases : Each Says cases
-unfolding parseRule keyedLine cutOf firstWhere further sameBytes countForm numberOf digitsOf digitsFrom bodyLines isNumbered rowValue rowForm formOf kindNamed kinds kindAt dualOf tabulateFrom writtenRule writtenBody decimal decimalIn markedDown reach listing normalListing normalForm writtenNormal
-all-cases = (refl, (λ buf. (refl, refl), tt))
+all-cases = all-say cases computed

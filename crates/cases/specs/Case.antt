@@ -4,15 +4,23 @@ use Prim.Native.String.{String}
 use mathlib.Core.Path.{_≡_}
 use mathlib.Core.List.{List, [], _∷_, _++_}
 use Rattle.tables.specs.Bytes.{bytes}
+use Rattle.tables.specs.declared.refusal.Outcome.{Outcome}
 use Rattle.tables.specs.declared.row.Formula.{Formula}
+use Rattle.tables.specs.declared.trace.Trace.{Trace}
 use Rattle.text.specs.Result.{Result}
 use Rattle.text.specs.Result.Result.{accepted, refused}
 use Rattle.rule_file.specs.Rule.{parseRule}
+use Rattle.take_file.specs.Take.{parseTake}
 use Rattle.normal_form.specs.declared.sign.Sign.{Sign}
 use Rattle.writing.specs.Answer.{writtenAnswer}
 use Rattle.writing.specs.Lent.{overlaid}
 use Rattle.writing.specs.declared.answer.Bytes.the-variants.{Count}
 use Rattle.normal_file.specs.Answer.{normalAnswer, normalLeft, boundAnswer}
+use Rattle.judging.specs.declared.verdict.Verdict.{Verdict}
+use Rattle.judging.specs.declared.verdict.Answer.{Answer}
+use Rattle.judging.specs.declared.verdict.Answer.the-variants.{Judged}
+use Rattle.judging.specs.Refusals.{loopedOutcome, openOutcome, Answers}
+use Rattle.judge_text.specs.Answer.{IsText}
 
 -- a file, by its lines
 abbrev pub File : Type 0
@@ -23,12 +31,16 @@ abbrev pub fileBytes : File → List ℕ
 fileBytes [] = []
 fileBytes (l ∷ ls) = bytes l ++ (10 ∷ fileBytes ls)
 
--- the first file is that of a rule
+-- the first file is that of a rule, and the second that of a take where there is one
 pub data Case : Type 0 where
   -- the file of its normal form, or of its negation's
   normal-form : File → Sign → File → Case
   -- the bound on that file's length
   bound : File → ℕ → Case
+  -- the verdict on a looped take, and on an open one
+  looped opened : File → File → Verdict → Case
+  -- the text that `judge` prints
+  prints : File → File → File → Case
 
 -- accepted, and what was read is so
 abbrev pub AcceptedAs : {A : Type 0} → (A → Type 0) → Result A → Type 0
@@ -39,14 +51,27 @@ AcceptedAs P (refused e n) = ⊥
 abbrev pub OnRule : File → (Formula → Type 0) → Type 0
 OnRule rule P = AcceptedAs P (parseRule (fileBytes rule))
 
+-- the file is that of a trace, and the trace is so
+abbrev pub OnTake : File → (Trace → Type 0) → Type 0
+OnTake take P = AcceptedAs P (parseTake (fileBytes take))
+
 -- the service's answer, and what it leaves in the buffer, are those of the output `out`
 abbrev pub Writes : Formula → Sign → List ℕ → Type 0
 Writes f s out = (buf : List ℕ) → (normalAnswer f s buf ≡ writtenAnswer out buf) × (normalLeft f s buf ≡ overlaid out buf)
 
+-- the contract of a service that judges lets it give this answer, and no other (judging/proofs, `one-answer`)
+abbrev pub Answered : (Formula → Trace → Outcome) → File → File → Answer → Type 0
+Answered outcome rule take r = OnRule rule (λ f. OnTake take (λ t. Answers (outcome f t) f t r))
+
+-- of `prints` too: no other text is the text of `judge` for the two files (proofs, `one-text`)
 abbrev pub Says : Case → Type 0
 Says (normal-form rule s out) = OnRule rule (λ f. Writes f s (fileBytes out))
 Says (bound rule n) = OnRule rule (λ f. boundAnswer f ≡ Count n)
+Says (looped rule take v) = Answered loopedOutcome rule take (Judged v)
+Says (opened rule take v) = Answered openOutcome rule take (Judged v)
+Says (prints rule take text) = IsText (parseRule (fileBytes rule)) (parseTake (fileBytes take)) (fileBytes text)
 
-abbrev pub Each : {A : Type 0} → (A → Type 0) → List A → Type 0
-Each P [] = Unit {0}
-Each P (x ∷ xs) = P x × Each P xs
+-- every element is so
+pub data Each {A : Type 0} (P : A → Type 0) : List A → Type 0 where
+  none : Each P []
+  first : {x : A} {xs : List A} → P x → Each P xs → Each P (x ∷ xs)

@@ -1,0 +1,85 @@
+-- What has to be computed for a case (Computed), and that the case is then so (computed-says). And the text of `judge` is one
+-- (one-text). Assumes nothing.
+use Prim.Native.Nat.{ℕ}
+use mathlib.Core.Path.{_≡_, refl, sym, ap, _∙_}
+use mathlib.Core.Bool.{Bool, true, false}
+use mathlib.Core.List.{List, [], _∷_}
+use lib.Dec.{eqb}
+use Rattle.tables.specs.declared.refusal.Outcome.{Outcome}
+use Rattle.tables.specs.declared.refusal.Outcome.the-variants.{Accepted}
+use Rattle.tables.specs.declared.row.Formula.{Formula}
+use Rattle.tables.specs.declared.trace.Ending.{Ending}
+use Rattle.tables.specs.declared.trace.Trace.{Trace}
+use Rattle.text.specs.Result.{Result}
+use Rattle.text.specs.Result.Result.{accepted, refused}
+use Rattle.rule_file.specs.Rule.{parseRule}
+use Rattle.rule_file.proofs.Rules.{rule-read}
+use Rattle.take_file.specs.Take.{parseTake}
+use Rattle.take_file.proofs.Takes.{take-read}
+use Rattle.normal_form.specs.declared.sign.Sign.the-variants.{Plain}
+use Rattle.normal_form.specs.Numbering.{normalForm}
+use Rattle.judging.specs.declared.verdict.Verdict.{Verdict}
+use Rattle.judging.specs.declared.verdict.Answer.the-variants.{Judged}
+use Rattle.judging.specs.Refusals.{andThen, pairOutcome, needsLoop, needsNoLoop}
+use Rattle.judging.proofs.ByBits.{computedVerdict, verdict-computed, answered}
+use Rattle.judge_text.specs.Text.{verdictText}
+use Rattle.judge_text.specs.Answer.{IsPairText, IsText}
+use Rattle.judge_text.proofs.Answers.{judged-text}
+use Rattle.cases.specs.Case.{File, fileBytes, Case, Answered, Says, Each, Each.none, Each.first}
+use Rattle.cases.specs.Case.Case.{normal-form, bound, looped, opened, prints}
+
+-- both files are read, their signals agree, the ending is what the service needs, and the bits give the verdict
+abbrev Judges : (Ending → Outcome) → Verdict → Result Formula → Result Trace → Type 0
+Judges needs v (accepted f) (accepted t) = (f .signals ≡ t .signals) × (needs (t .ending) ≡ Accepted) × (computedVerdict f t ≡ v)
+Judges needs v (accepted f) (refused e n) = ⊥
+Judges needs v (refused e n) q = ⊥
+
+-- the same for the text
+abbrev PrintsText : List ℕ → Result Formula → Result Trace → Type 0
+PrintsText text (accepted f) (accepted t) = (f .signals ≡ t .signals) × (verdictText (f .signals) (normalForm f Plain .rows) (t .cycles) (t .ending) (computedVerdict f t) ≡ text)
+PrintsText text (accepted f) (refused e n) = ⊥
+PrintsText text (refused e n) q = ⊥
+
+-- a case on the normal form is computed itself
+abbrev pub Computed : Case → Type 0
+Computed (normal-form rule s out) = Says (normal-form rule s out)
+Computed (bound rule n) = Says (bound rule n)
+Computed (looped rule take v) = Judges needsLoop v (parseRule (fileBytes rule)) (parseTake (fileBytes take))
+Computed (opened rule take v) = Judges needsNoLoop v (parseRule (fileBytes rule)) (parseTake (fileBytes take))
+Computed (prints rule take text) = PrintsText (fileBytes text) (parseRule (fileBytes rule)) (parseTake (fileBytes take))
+
+-- the checks of a service that needs such an ending
+abbrev checks : (Ending → Outcome) → Formula → Trace → Outcome
+checks needs f t = andThen (pairOutcome f t) (needs (t .ending))
+
+module _ (rule take : File) where
+  judged : (needs : Ending → Outcome) (v : Verdict) (p : Result Formula) (q : Result Trace) → parseRule (fileBytes rule) ≡ p → parseTake (fileBytes take) ≡ q → Judges needs v p q → Answered (checks needs) rule take (Judged v)
+  judged needs v (accepted f) (accepted t) fr tr (same, e, c) = rw (fr, tr, ← c) (answered f t (rule-read (fileBytes rule) f fr .1) (take-read (fileBytes take) t tr .1) same e)
+  judged needs v (accepted f) (refused e n) fr tr x = absurd x
+  judged needs v (refused e n) q fr tr x = absurd x
+
+  printed : (text : List ℕ) (p : Result Formula) (q : Result Trace) → parseRule (fileBytes rule) ≡ p → parseTake (fileBytes take) ≡ q → PrintsText text p q → IsText p q text
+  printed text (accepted f) (accepted t) fr tr (same, e) = rw (← e) (judged-text f t same (computedVerdict f t) (verdict-computed f t (rule-read (fileBytes rule) f fr .1 .in-range) (take-read (fileBytes take) t tr .1 .range)) _ refl)
+  printed text (accepted f) (refused e n) fr tr x = absurd x
+  printed text (refused e n) q fr tr x = absurd x
+
+pub computed-says : (c : Case) → Computed c → Says c
+computed-says (normal-form rule s out) x = x
+computed-says (bound rule n) x = x
+computed-says (looped rule take v) x = judged rule take needsLoop v _ _ refl refl x
+computed-says (opened rule take v) x = judged rule take needsNoLoop v _ _ refl refl x
+computed-says (prints rule take text) x = printed rule take (fileBytes text) _ _ refl refl x
+
+pub all-say : (cs : List Case) → Each Computed cs → Each Says cs
+all-say [] none = none
+all-say (c ∷ cs) (first x xs) = first (computed-says c x) (all-say cs xs)
+
+-- THE CONTRACT LEAVES ONE TEXT
+pub one-text : (p : Result Formula) (q : Result Trace) (a b : List ℕ) → IsText p q a → IsText p q b → a ≡ b
+one-text (refused e n) q a b x y = x ∙ sym y
+one-text (accepted f) (refused e n) a b x y = x ∙ sym y
+one-text (accepted f) (accepted t) a b x y = pair (eqb (f .signals) (t .signals)) x y
+  where
+    pair : (same : Bool) → IsPairText same f t a → IsPairText same f t b → a ≡ b
+    pair false x y = x ∙ sym y
+    pair true (v, is, e) (u, other, d) = e ∙ ap (verdictText (f .signals) (normalForm f Plain .rows) (t .cycles) (t .ending)) (other .only v (is .said)) ∙ sym d
