@@ -1,2 +1,4 @@
 pub mod RunLoop
 pub mod SurveyLoop
+pub mod Findings
+pub mod Conclusions

@@ -1,2 +1,4 @@
 pub mod RowRun
 pub mod Survey
+pub mod Finding
+pub mod Conclusion
