@@ -30,7 +30,7 @@ use Rattle.writing.specs.Lent.{overlaid}
 use Rattle.writing.specs.Refusal.{refusalText}
 use Rattle.judging.specs.declared.verdict.Verdict.{Verdict}
 use Rattle.judging.specs.Verdict.{VerdictOf}
-use Rattle.judging.proofs.Outcomes.{refused-only}
+use Rattle.tables.proofs.Outcomes.{refused-only}
 use Rattle.judge_text.specs.Text.{verdictText}
 use Rattle.judge_text.specs.Answer.{IsVerdictText, IsPairText, IsText}
 

@@ -2,7 +2,7 @@
 use mathlib.Core.Path.{_≡_}
 use lib.Dec.{eqb}
 use Rattle.tables.specs.Choice.{pick}
-use Rattle.tables.specs.declared.refusal.Reason.{Reason}
+use Rattle.tables.specs.Refusal.{andThen, callRefused}
 use Rattle.tables.specs.declared.refusal.Reason.the-variants.{SignalsDiffer, WrongEnding}
 use Rattle.tables.specs.declared.refusal.Outcome.{Outcome}
 use Rattle.tables.specs.declared.refusal.Outcome.the-variants.{Accepted, Refused}
@@ -19,15 +19,6 @@ use Rattle.judging.specs.declared.verdict.Verdict.{Verdict}
 use Rattle.judging.specs.declared.verdict.Answer.{Answer}
 use Rattle.judging.specs.declared.verdict.Answer.the-variants.{Judged, Refused as AnswerRefused}
 use Rattle.judging.specs.Verdict.{VerdictOf}
-
--- the first of two checks that refuses
-abbrev pub andThen : Outcome → Outcome → Outcome
-andThen Accepted o = o
-andThen (Refused r) o = Refused r
-
--- "file and line 0 for 7 to 10"
-abbrev pub callRefused : Reason → Outcome
-callRefused reason = Refused (record { reason = reason; file = 0; line = 0 })
 
 -- "Files go rule, take": "A table handed to a service is checked as if written out as its file". "Then 7": "Rule and take differ in
 -- `signals`."

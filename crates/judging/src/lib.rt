@@ -5,7 +5,7 @@ use crate::verdict::Verdict;
 use normal_form::sign::Sign;
 use tables::refusal::Outcome;
 use tables::refusal::Reason;
-use tables::refusal::Refusal;
+use tables::refusal::call_refused;
 use tables::row::Formula;
 use tables::row::NormalForm;
 use tables::trace::Ending;
@@ -20,7 +20,7 @@ ghost use Rattle.normal_form.specs.Numbering.{normalForm};
 ghost use Rattle.normal_form.specs.declared.sign.Sign.the-variants.{Plain};
 ghost use Rattle.truth.specs.Truth.{TrueAt};
 ghost use Rattle.judging.specs.Verdict.{VerdictOf};
-ghost use Rattle.judging.specs.Refusals.{Answers, callRefused, loopedOutcome, openOutcome, pairOutcome};
+ghost use Rattle.judging.specs.Refusals.{Answers, loopedOutcome, openOutcome, pairOutcome};
 
 pub mod verdict;
 
@@ -63,16 +63,6 @@ pub fn decide(formula: Formula, trace: Trace) -> Judgement
     Judgement { rows, verdict }
 }
 
-fn refused(reason: Reason) -> Outcome
-    ensures { λ r. ⌜ r ≡ callRefused reason ⌝ }
-{
-    Outcome::Refused(Refusal {
-        reason,
-        file: 0,
-        line: 0,
-    })
-}
-
 // The formula's own refusals, then the trace's, then 7.
 pub fn check_pair(formula: Formula, trace: Trace) -> Outcome
     ensures { λ r. ⌜ r ≡ pairOutcome formula trace ⌝ }
@@ -87,7 +77,7 @@ pub fn check_pair(formula: Formula, trace: Trace) -> Outcome
         return take;
     };
     if formula.signals != trace.signals {
-        return refused(Reason::SignalsDiffer);
+        return call_refused(Reason::SignalsDiffer);
     }
     Outcome::Accepted
 }
@@ -102,7 +92,7 @@ fn check_looped(formula: Formula, trace: Trace) -> Outcome
     };
     let ending = trace.ending;
     match ending {
-        Ending::Open => refused(Reason::WrongEnding),
+        Ending::Open => call_refused(Reason::WrongEnding),
         Ending::Loop(_) => Outcome::Accepted,
     }
 }
@@ -118,7 +108,7 @@ fn check_open(formula: Formula, trace: Trace) -> Outcome
     let ending = trace.ending;
     match ending {
         Ending::Open => Outcome::Accepted,
-        Ending::Loop(_) => refused(Reason::WrongEnding),
+        Ending::Loop(_) => call_refused(Reason::WrongEnding),
     }
 }
 

@@ -1,9 +1,8 @@
 -- What the services on the normal form answer, and what they leave in the lent buffer. Assumes nothing.
 use Prim.Native.Nat.{ℕ, _+_, _*_}
 use mathlib.Core.List.{List}
-use Rattle.tables.specs.declared.refusal.Refusal.{Refusal}
+use Rattle.tables.specs.Refusal.{onOutcome}
 use Rattle.tables.specs.declared.refusal.Outcome.{Outcome}
-use Rattle.tables.specs.declared.refusal.Outcome.the-variants.{Accepted, Refused}
 use Rattle.tables.specs.declared.row.Formula.{Formula}
 use Rattle.text.specs.Result.{outcomeOf}
 use Rattle.rule_file.specs.Rule.{parseRule}
@@ -19,10 +18,6 @@ use Rattle.writing.specs.declared.answer.Bytes.the-variants.{Count, Refused as 
 -- "A table handed to a service is checked as if written out as its file": its own refusals come first
 abbrev pub ownOutcome : Formula → Outcome
 ownOutcome f = outcomeOf 1 (parseRule (writtenRule f))
-
-abbrev pub onOutcome : {A : Type 0} → Outcome → (Refusal → A) → A → A
-onOutcome Accepted g x = x
-onOutcome (Refused r) g x = g r
 
 -- the output: the rule file of the normal form
 abbrev pub output : Formula → Sign → List ℕ

@@ -3,3 +3,4 @@ pub mod Bits
 pub mod KindTable
 pub mod Marks
 pub mod UsedRows
+pub mod Outcomes

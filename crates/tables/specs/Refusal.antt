@@ -1,6 +1,9 @@
--- 01, "Why a file is turned back": the number of each reason. Assumes nothing.
+-- 01, "Why a file is turned back": the number of each reason, and checks that refuse. Assumes nothing.
 use Prim.Native.Nat.{ℕ}
 use Rattle.tables.specs.declared.refusal.Reason.{Reason}
+use Rattle.tables.specs.declared.refusal.Refusal.{Refusal}
+use Rattle.tables.specs.declared.refusal.Outcome.{Outcome}
+use Rattle.tables.specs.declared.refusal.Outcome.the-variants.{Accepted, Refused}
 use Rattle.tables.specs.declared.refusal.Reason.the-variants.{TooLong, WrongForm, WrongFormat, CountOutOfRange, BadReference, BadLoop, SignalsDiffer, WrongEnding, SizeDiffers, ShortBuffer}
 
 abbrev pub number : Reason → ℕ
@@ -14,3 +17,17 @@ number SignalsDiffer = 7
 number WrongEnding = 8
 number SizeDiffers = 9
 number ShortBuffer = 10
+
+-- the first of two checks that refuses
+abbrev pub andThen : Outcome → Outcome → Outcome
+andThen Accepted o = o
+andThen (Refused r) o = Refused r
+
+-- "file and line 0 for 7 to 10"
+abbrev pub callRefused : Reason → Outcome
+callRefused reason = Refused (record { reason = reason; file = 0; line = 0 })
+
+-- what follows of a refusal, and where there is none
+abbrev pub onOutcome : {A : Type 0} → Outcome → (Refusal → A) → A → A
+onOutcome Accepted g x = x
+onOutcome (Refused r) g x = g r

@@ -1,6 +1,6 @@
 // Why a file or a call is turned back (01: "Why a file is turned back").
 ghost use mathlib.Core.Path.{_≡_};
-ghost use Rattle.tables.specs.Refusal.{number};
+ghost use Rattle.tables.specs.Refusal.{callRefused, number};
 
 pub enum Reason {
     TooLong,
@@ -43,4 +43,15 @@ pub fn reason_number(reason: Reason) -> u8
         Reason::SizeDiffers => 9,
         Reason::ShortBuffer => 10,
     }
+}
+
+// A call is refused where no file is at fault.
+pub fn call_refused(reason: Reason) -> Outcome
+    ensures { λ r. ⌜ r ≡ callRefused reason ⌝ }
+{
+    Outcome::Refused(Refusal {
+        reason,
+        file: 0,
+        line: 0,
+    })
 }

@@ -11,7 +11,7 @@ pub enum Digits {
 }
 
 // Whether each byte is 0 or 1.
-fn are_digits(value: &[u8]) -> bool
+pub fn are_digits(value: &[u8]) -> bool
     ensures { λ r. ⌜ r ≡ areDigits (now (value .entry)) ⌝ }
 {
     let mut i = 0;

@@ -1,6 +1,6 @@
 use mathlib.Core.Path.{_≡_, refl, sym, ap, _∙_}
 use Rattle.judging.specs.Refusals.{needsNoLoop}
-use Rattle.judging.proofs.Outcomes.{stops, goes, refused-only}
+use Rattle.tables.proofs.Outcomes.{stops, goes, refused-only}
 use borrow.Author.Needs.{needs}
 use Rattle.judging.proofs.check_open.Statement.{statement}
 use Rattle.judging.proofs.check_open.Tie as tie
@@ -12,7 +12,7 @@ returns-2 : tie.Need-returns-2
 returns-2 c = (sym (ap needsNoLoop (c .enum-told3 .given .1)) ∙ goes _ (c .before .before .before .before .check-pair .ensures .0) (c .before .before .enum-told .given .1), λ e. c .before .before .before .before .check-pair .ensures .1 (c .before .before .enum-told .given .1))
 
 returns-3 : tie.Need-returns-3
-returns-3 c = (c .refused .ensures ∙ sym (ap needsNoLoop (c .before .enum-told4 .given .1)) ∙ goes _ (c .before .before .before .before .before .check-pair .ensures .0) (c .before .before .before .enum-told .given .1), λ e. c .before .before .before .before .before .check-pair .ensures .1 (c .before .before .before .enum-told .given .1))
+returns-3 c = (c .call-refused .ensures ∙ sym (ap needsNoLoop (c .before .enum-told4 .given .1)) ∙ goes _ (c .before .before .before .before .before .check-pair .ensures .0) (c .before .before .before .enum-told .given .1), λ e. c .before .before .before .before .before .check-pair .ensures .1 (c .before .before .before .enum-told .given .1))
 
 pub check-open-spec : {M : Type 1} → statement M
 check-open-spec =
