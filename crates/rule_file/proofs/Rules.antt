@@ -29,16 +29,17 @@ use Rattle.text.specs.Result.{Result, onLine, mapResult, outcomeOf}
 use Rattle.text.specs.Result.Parsed.{good}
 use Rattle.text.specs.Result.Result.{accepted, refused}
 use Rattle.text.specs.Written.{decimal, writtenLine, writtenBody}
+use Rattle.text.proofs.Searching.{clash}
 use Rattle.text.proofs.Lines.{Free}
-use Rattle.text.proofs.Bodies.{BodyOf, body-written, body-read}
-use Rattle.text.proofs.Headers.{count-then, count-in, count-below, count-above, count-range, map-accepted, test-accepted, outcome-accepted}
+use Rattle.text.proofs.Bodies.{BodyOf, body-starts, body-surplus, body-line, body-written, body-read}
+use Rattle.text.proofs.Headers.{count-then, count-in, count-below, count-above, count-range, map-accepted, test-accepted, outcome-accepted, parsed-accepted}
 use Rattle.text.proofs.Elements.{decimal-short, count-short, body-short}
 use Rattle.text.proofs.RefusedLines.{RefusedBy, map-by, test-by, count-by, body-by, refused-line, outcome-line}
 use Rattle.rule_file.specs.Row.{inRange, rowValue}
 use Rattle.rule_file.specs.Rule.{inPlace, unused, formulaOf, ruleLines, parseRule}
 use Rattle.rule_file.specs.Written.{numbersText, writtenRow, rowsOf, ruleText, writtenRule}
 use Rattle.rule_file.specs.Valid.{InRange, Valid}
-use Rattle.rule_file.proofs.WrittenRows.{Small, row-free, range-small, value-written, value-read}
+use Rattle.rule_file.proofs.WrittenRows.{Small, row-free, range-small, value-written, value-read, any-row-free, any-value-read}
 
 -- ---- a written rule is never too long
 
@@ -201,6 +202,46 @@ rule-read file f e =
 -- so that no two files yield one formula
 pub rule-once : (a b : List ℕ) (f : Formula) → parseRule a ≡ accepted f → parseRule b ≡ accepted f → a ≡ b
 rule-once a b f p q = rule-read a f p .0 ∙ sym (rule-read b f q .0)
+
+-- ---- a formula that passes the check
+
+rows-checked : (signals : ℕ) (rs : List Row) (left k n : ℕ) (xs : List Row) → k + left ≤ 100000
+    → bodyLines 114 (rowValue signals) left k n (writtenBody 114 writtenRow k rs) ≡ accepted xs → EachAt (RowOk signals) k rs
+rows-checked signals [] left k n xs h e = tt
+rows-checked signals (r ∷ rs) zero k n xs h e =
+    let more : length (writtenBody 114 writtenRow k (r ∷ rs)) ≡ 0 → ⊥ = λ z. unfold writtenBody in omega arith in
+    let q = body-surplus (body-starts 114 (rowValue signals) 0 k n (writtenBody 114 writtenRow k (r ∷ rs))) (omega arith) more in
+    clash (cc)
+rows-checked signals (r ∷ rs) (suc left) k n xs h e =
+    let b = body-line 114 (omega arith) (rowValue signals) writtenRow left k n r rs (omega arith) (any-row-free r) in
+    let w = parsed-accepted (rowValue signals k (writtenRow r)) n _ xs (sym b ∙ e) in
+    let m = map-accepted (_∷_ (w .0)) (bodyLines 114 (rowValue signals) left (k + 1) (n + 1) (writtenBody 114 writtenRow (k + 1) rs)) xs (w .2) in
+    (any-value-read signals k r (w .0) (w .1), rows-checked signals rs left (k + 1) (n + 1) (m .0) (omega arith) (m .1))
+
+accepted-range : (f x : Formula) → parseRule (writtenRule f) ≡ accepted x → InRange f
+unfolding parseRule writtenRule
+accepted-range f x e =
+    let body : List ℕ = writtenBody 114 writtenRow 1 (rowsOf f) in
+    let rows-line : List ℕ = writtenLine (bytes "rows") (decimal (f .rows)) body in
+    let signals-line : List ℕ = writtenLine (bytes "signals") (decimal (f .signals)) rows-line in
+    let a = test-accepted (ltb 65536 (length (writtenRule f))) TooLong 0 _ x e in
+    let o = count-range (bytes "format") 1 1 WrongFormat 1 behindFormat refl refl 1 signals-line x a in
+    let s = count-range (bytes "signals") 1 32 CountOutOfRange 2 behindSignals refl refl (f .signals) rows-line x (o .2) in
+    let m = count-range (bytes "rows") 1 64 CountOutOfRange 3 (behindRows (f .signals)) refl refl (f .rows) body x (s .2) in
+    let b = map-accepted (formulaOf (f .signals) (f .rows)) (bodyLines 114 (rowValue (f .signals)) (f .rows) 1 4 body) x (m .2) in
+    record {
+      some-signals = s .0;
+      most-signals = s .1;
+      some-rows = m .0;
+      most-rows = m .1;
+      rows-in-range = rows-checked (f .signals) (rowsOf f) (f .rows) 1 4 (b .0) (omega (arith, m .1)) (b .1);
+    }
+
+-- A FORMULA THAT PASSES THE CHECK IS IN RANGE
+pub checked : (f : Formula) → outcomeOf 1 (parseRule (writtenRule f)) ≡ Accepted → InRange f
+checked f e =
+    let x = outcome-accepted 1 (parseRule (writtenRule f)) e in
+    accepted-range f (x .0) (x .1)
 
 -- ---- the line of a refusal: three lines of counts, up to 64 rows, and the line behind them
 refused-by : (file : List ℕ) → RefusedBy 68 (parseRule file)

@@ -27,7 +27,7 @@ use Rattle.text.specs.declared.number.Number.the-variants.{Is}
 use Rattle.text.proofs.Searching.{clash, hit, each-found, each-pick, same-eq, pick-both}
 use Rattle.text.proofs.Numbers.{number-written, number-read, each-number}
 use Rattle.text.proofs.Lines.{Free, free-append, first-at, first-free, cut-front, cut-behind, cut-found, no-digit-below, free-decimal}
-use Rattle.text.proofs.Headers.{lacks, free}
+use Rattle.text.proofs.Headers.{lacks, free, free-below, decimal-inj}
 use Rattle.rule_file.specs.Row.{kindNamed, formOf, rowForm, isSignal, isOperand, inRange, rowValue}
 use Rattle.rule_file.specs.Written.{numbersText, writtenRow}
 use Rattle.rule_file.proofs.RowValues.{form-counted, numbers-below}
@@ -183,3 +183,53 @@ value-read signals number v r = by (rowForm v) (row-says v)
         (λ e q. let z : s ≡ r = cc in subst (λ (x : Row). (v ≡ writtenRow x) × (inRange signals number x ≡ true)) z (w, e))
         (λ _ q. clash (cc))
     by (bad e) w = λ q. clash (cc)
+
+-- ---- rows of any numbers: what is read of a written row is that row
+
+any-free : (r : Row) → Free 10 (numbersText r)
+any-free (Constant k) = tt
+any-free (Signal k s) = (λ q. omega arith, free-below 10 s (omega arith))
+any-free (Unary k a) = (λ q. omega arith, free-below 10 a (omega arith))
+any-free (Binary k a b) = (λ q. omega arith, free-append 10 (decimal a) (32 ∷ decimal b) (free-below 10 a (omega arith)) (λ q. omega arith, free-below 10 b (omega arith)))
+
+pub any-row-free : (r : Row) → Free 10 (writtenRow r)
+any-row-free r = free-append 10 (wordOf (kindAt (placeOf r))) (numbersText r) (word-no-feed (placeOf r) (kind-of-row r .0)) (any-free r)
+
+-- a written number is read as itself, where it is not too long to be read
+own-number : (a n : ℕ) → Is n ≡ numberOf (decimal a) → a ≡ n
+own-number a n e = decimal-inj a n (number-read (decimal a) n (sym e))
+
+module _ (y : Row) where
+  Own : Row → Parsed Row → Type 0
+  Own r p = p ≡ good y → r ≡ y
+
+  own-form : (r : Row) → Own r (formOf (wordOf (kindAt (placeOf r))) (numbersIn r) (firstNumber r) (secondNumber r))
+  unfolding Own
+  own-form r q = let e : good r ≡ good y = ap good (sym (numbers-own r)) ∙ (sym (form-row r (firstNumber r) (secondNumber r)) ∙ q) in cc
+
+  row-own : (r : Row) → Own r (rowForm (writtenRow r))
+  unfolding Own rowForm
+  row-own r = by r (word-no-space (placeOf r) (kind-of-row r .0)) (own-form r)
+    where
+      by : (r : Row) → Free 32 (wordOf (kindAt (placeOf r))) → Own r (formOf (wordOf (kindAt (placeOf r))) (numbersIn r) (firstNumber r) (secondNumber r)) → Own r (rowForm (writtenRow r))
+      by (Constant k) f o = rw (append-nil, first-free 32 _ f) o
+      by (Signal k s) f o = rw (first-at 32 _ (decimal s) f, cut-behind 32 _ (decimal s), first-free 32 (decimal s) (free-below 32 s (omega arith)), cut-front 32 _ (decimal s)) (each-number (Own (Signal k s)) (numberOf (decimal s)) (λ q. clash (cc)) (λ n e. rw (← own-number s n e) o))
+      by (Unary k a) f o = rw (first-at 32 _ (decimal a) f, cut-behind 32 _ (decimal a), first-free 32 (decimal a) (free-below 32 a (omega arith)), cut-front 32 _ (decimal a)) (each-number (Own (Unary k a)) (numberOf (decimal a)) (λ q. clash (cc)) (λ n e. rw (← own-number a n e) o))
+      by (Binary k a b) f o =
+          rw (
+            first-at 32 _ (decimal a ++ (32 ∷ decimal b)) f,
+            cut-behind 32 _ (decimal a ++ (32 ∷ decimal b)),
+            first-at 32 (decimal a) (decimal b) (free-below 32 a (omega arith)),
+            cut-front 32 (decimal a) (decimal b),
+            cut-behind 32 (decimal a) (decimal b),
+            cut-front 32 _ (decimal a ++ (32 ∷ decimal b)),
+          )
+          (each-number (Own (Binary k a b)) (numberOf (decimal a)) (λ q. clash (cc)) (λ n e. each-number (Own (Binary k a b)) (numberOf (decimal b)) (λ q. clash (cc)) (λ m d. rw (← own-number a n e, ← own-number b m d) o)))
+
+pub any-value-read : (signals number : ℕ) (r y : Row) → rowValue signals number (writtenRow r) ≡ good y → inRange signals number r ≡ true
+unfolding rowValue Own
+any-value-read signals number r y = by (rowForm (writtenRow r)) (λ x. row-own x r)
+  where
+    by : (p : Parsed Row) → ((x : Row) → p ≡ good x → r ≡ x) → onParsed p bad (λ r. pick (inRange signals number r) (good r) (bad BadReference)) ≡ good y → inRange signals number r ≡ true
+    by (good s) own = each-pick (λ p. p ≡ good y → inRange signals number r ≡ true) (inRange signals number s) (λ e q. ap (inRange signals number) (own s refl) ∙ e) (λ _ q. clash (cc))
+    by (bad e) own = λ q. clash (cc)
