@@ -20,7 +20,8 @@ use Rattle.normal_form.specs.declared.sign.Sign.the-variants.{Plain}
 use Rattle.normal_form.specs.Numbering.{normalForm}
 use Rattle.judging.specs.declared.verdict.Verdict.{Verdict}
 use Rattle.judging.specs.declared.verdict.Answer.the-variants.{Judged}
-use Rattle.judging.specs.Refusals.{andThen, pairOutcome, needsLoop, needsNoLoop}
+use Rattle.judging.specs.Refusals.{pairOutcome, needsLoop, needsNoLoop}
+use Rattle.tables.specs.Refusal.{andThen}
 use Rattle.judging.proofs.ByBits.{computedVerdict, verdict-computed, answered}
 use Rattle.judge_text.specs.Text.{verdictText}
 use Rattle.judge_text.specs.Answer.{IsPairText, IsText}

@@ -37,8 +37,9 @@ use Rattle.judging.specs.declared.verdict.Verdict.the-variants.{Holds, B
 use Rattle.judging.specs.declared.verdict.Answer.{Answer}
 use Rattle.judging.specs.declared.verdict.Answer.the-variants.{Judged}
 use Rattle.judging.specs.Verdict.{StronglyTrue, VerdictOf}
-use Rattle.judging.specs.Refusals.{andThen, pairOutcome, Answers}
-use Rattle.judging.proofs.Outcomes.{agree}
+use Rattle.judging.specs.Refusals.{pairOutcome, Answers}
+use Rattle.tables.specs.Refusal.{andThen}
+use Rattle.tables.proofs.Outcomes.{agree}
 use Rattle.judging.proofs.Verdicts.{kept-not-broken, holds-verdict, breaks-verdict, kept-verdict, broken-verdict, open-verdict}
 
 -- ---- the bits
