@@ -1,5 +1,6 @@
 // The two ways of judging held together, on every small rule and take and on many random ones.
-use super::{answer, judge, judge_by_definition};
+use super::judge_by_definition;
+use crate::judging::{answer, judge};
 use std::collections::BTreeMap;
 
 const SIGNALS: [&str; 2] = ["sig", "nsig"];

@@ -1,0 +1,137 @@
+// The proved judge, as the library offers it, and the plain-Rust one, in one process and on the same bytes: first that both give the
+// same text, then how long a call takes, from the bytes of two files to the text.
+// Build: rt staticlib library && rustc -O -L target/staticlib -l static=library -o target/judge-speed bench/judge_speed.rs
+// Run:   bench/big_judge_inputs.py && target/judge-speed
+//
+// Both are called with the same two slices, read once and untouched since. The text buffer of the proved judge has 64 bytes and is NOT
+// cleared between calls. What a call clears for itself is in its time: the proved judge its arrays on the stack, the plain-Rust one its
+// table and its lists on the heap, where the text is made too.
+#![deny(unsafe_code)]
+
+mod judging;
+mod reading;
+mod rule;
+mod take;
+
+use std::hint::black_box;
+use std::time::Instant;
+
+/// The declarations, which nothing checks against crates/library: a slice is a pointer and a length.
+#[allow(unsafe_code)]
+mod library {
+    extern "C" {
+        fn citronhelm_judge(
+            rule: *const u8,
+            rule_len: usize,
+            take: *const u8,
+            take_len: usize,
+            text: *mut u8,
+            text_len: usize,
+        ) -> usize;
+    }
+
+    /// Nothing is asked of the slices; the three cannot overlap, since one of them is lent mutably.
+    pub fn judge(rule: &[u8], take: &[u8], text: &mut [u8]) -> usize {
+        unsafe { citronhelm_judge(rule.as_ptr(), rule.len(), take.as_ptr(), take.len(), text.as_mut_ptr(), text.len()) }
+    }
+}
+
+fn plain(rule: &[u8], take: &[u8]) -> String {
+    judging::answer(rule, take, judging::judge)
+}
+
+/// Both give the same text, and what lies behind it in the buffer stays.
+fn hold_together(rule: &[u8], take: &[u8]) {
+    let want = plain(rule, take);
+    let mut text = [0xa5; 80];
+    let n = library::judge(rule, take, &mut text);
+    assert!(text[..n] == *want.as_bytes(), "{:?} against {want:?}", String::from_utf8_lossy(&text[..n]));
+    assert!(text[n..].iter().all(|&b| b == 0xa5));
+}
+
+/// A buffer that is too short is answered by 0 and stays as it was; any other gets the text.
+fn try_lengths(rule: &[u8], take: &[u8]) {
+    let want = plain(rule, take);
+    for length in 0..80 {
+        let mut text = vec![0xa5; length];
+        let n = library::judge(rule, take, &mut text);
+        assert_eq!(n, if length < want.len() { 0 } else { want.len() });
+        assert!(text[..n] == want.as_bytes()[..n] && text[n..].iter().all(|&b| b == 0xa5));
+    }
+}
+
+/// The file cut short at every place, and with every byte changed in two ways, as far as `step` goes.
+fn damaged(file: &[u8], step: usize) -> Vec<Vec<u8>> {
+    let mut files = Vec::new();
+    for i in (0..file.len()).step_by(step) {
+        files.push(file[..i].to_vec());
+        for change in [1, b'9' ^ file[i]] {
+            let mut other = file.to_vec();
+            other[i] ^= change;
+            files.push(other);
+        }
+    }
+    files
+}
+
+/// Microseconds a call.
+fn time(calls: u32, mut call: impl FnMut()) -> f64 {
+    let start = Instant::now();
+    for _ in 0..calls {
+        call();
+    }
+    start.elapsed().as_nanos() as f64 / 1e3 / calls as f64
+}
+
+fn best_and_median(mut times: Vec<f64>) -> (f64, f64) {
+    times.sort_by(f64::total_cmp);
+    (times[0], times[times.len() / 2])
+}
+
+/// Many and short, about half a millisecond each, so that what else runs on the machine falls into few of them.
+const ROUNDS: usize = 401;
+
+fn measure(name: &str, rule: &[u8], take: &[u8]) {
+    let mut text = [0; 64];
+    let mut proved = || {
+        black_box(library::judge(black_box(rule), black_box(take), black_box(&mut text)));
+    };
+    let plain = || {
+        black_box(plain(black_box(rule), black_box(take)));
+    };
+    let calls = 1 + (500.0 / time(100, &mut proved)) as u32;
+    let (mut ours, mut theirs) = (Vec::new(), Vec::new());
+    for _ in 0..ROUNDS {
+        ours.push(time(calls, &mut proved));
+        theirs.push(time(calls, plain));
+    }
+    let (a, b) = (best_and_median(ours), best_and_median(theirs));
+    println!("| {name} | {:.1} | {:.1} | {:.1} | {:.1} | {:.2} | {:.2} |", a.0, a.1, b.0, b.1, a.0 / b.0, a.1 / b.1);
+}
+
+fn main() {
+    let mut inputs = Vec::new();
+    for (rows, cycles) in [(64, 256), (32, 256), (16, 256), (64, 128), (64, 64), (32, 128), (16, 64)] {
+        for end in ["looped", "open"] {
+            let folder = format!("target/big/{rows}x{cycles}-{end}");
+            let file = |name: &str| std::fs::read(format!("{folder}/{name}.txt")).expect("run bench/big_judge_inputs.py first");
+            inputs.push((format!("{rows} rows, {cycles} cycles, {end}"), file("rule"), file("take")));
+        }
+    }
+    let mut pairs = 0;
+    for (_, rule, take) in &inputs {
+        try_lengths(rule, take);
+        hold_together(rule, take);
+        let (rules, takes) = (damaged(rule, 3), damaged(take, 29));
+        rules.iter().for_each(|rule| hold_together(rule, take));
+        takes.iter().for_each(|take| hold_together(rule, take));
+        pairs += 1 + rules.len() + takes.len();
+    }
+    println!("{pairs} pairs of files, most of them damaged: the same texts");
+    println!("microseconds a call, {ROUNDS} rounds in turn\n");
+    println!("| rule and take | proved: best | median | plain Rust: best | median | ratio of the best | of the medians |");
+    println!("|---|---|---|---|---|---|---|");
+    for (name, rule, take) in &inputs {
+        measure(name, rule, take);
+    }
+}
