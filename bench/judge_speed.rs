@@ -13,6 +13,7 @@ mod reading;
 mod rule;
 mod take;
 
+use std::cell::RefCell;
 use std::hint::black_box;
 use std::time::Instant;
 
@@ -75,7 +76,7 @@ fn damaged(file: &[u8], step: usize) -> Vec<Vec<u8>> {
 }
 
 /// Microseconds a call.
-fn time(calls: u32, mut call: impl FnMut()) -> f64 {
+fn time(calls: u32, call: &dyn Fn()) -> f64 {
     let start = Instant::now();
     for _ in 0..calls {
         call();
@@ -83,30 +84,26 @@ fn time(calls: u32, mut call: impl FnMut()) -> f64 {
     start.elapsed().as_nanos() as f64 / 1e3 / calls as f64
 }
 
-fn best_and_median(mut times: Vec<f64>) -> (f64, f64) {
-    times.sort_by(f64::total_cmp);
-    (times[0], times[times.len() / 2])
+/// Many and short, about a quarter of a millisecond each, so that what else runs on the machine falls into few of them.
+const ROUNDS: usize = 801;
+
+/// The best and the median time of each of the jobs, which take turns.
+fn measure(jobs: &[&dyn Fn()]) -> Vec<(f64, f64)> {
+    let calls: Vec<u32> = jobs.iter().map(|job| 1 + (250.0 / time(100, job)) as u32).collect();
+    let mut times = vec![Vec::new(); jobs.len()];
+    for _ in 0..ROUNDS {
+        for (i, job) in jobs.iter().enumerate() {
+            times[i].push(time(calls[i], job));
+        }
+    }
+    times.iter_mut().for_each(|t| t.sort_by(f64::total_cmp));
+    times.iter().map(|t| (t[0], t[ROUNDS / 2])).collect()
 }
 
-/// Many and short, about half a millisecond each, so that what else runs on the machine falls into few of them.
-const ROUNDS: usize = 401;
-
-fn measure(name: &str, rule: &[u8], take: &[u8]) {
-    let mut text = [0; 64];
-    let mut proved = || {
-        black_box(library::judge(black_box(rule), black_box(take), black_box(&mut text)));
-    };
-    let plain = || {
-        black_box(plain(black_box(rule), black_box(take)));
-    };
-    let calls = 1 + (500.0 / time(100, &mut proved)) as u32;
-    let (mut ours, mut theirs) = (Vec::new(), Vec::new());
-    for _ in 0..ROUNDS {
-        ours.push(time(calls, &mut proved));
-        theirs.push(time(calls, plain));
-    }
-    let (a, b) = (best_and_median(ours), best_and_median(theirs));
-    println!("| {name} | {:.1} | {:.1} | {:.1} | {:.1} | {:.2} | {:.2} |", a.0, a.1, b.0, b.1, a.0 / b.0, a.1 / b.1);
+/// The same rule with 31 signals: it and a take with 32 are read to their ends, and then refused.
+fn narrower(rule: &[u8]) -> Vec<u8> {
+    let text = String::from_utf8(rule.to_vec()).unwrap();
+    text.replace("signals=32\n", "signals=31\n").replace("sig 32\n", "sig 31\n").into_bytes()
 }
 
 fn main() {
@@ -131,7 +128,29 @@ fn main() {
     println!("microseconds a call, {ROUNDS} rounds in turn\n");
     println!("| rule and take | proved: best | median | plain Rust: best | median | ratio of the best | of the medians |");
     println!("|---|---|---|---|---|---|---|");
+    let text = RefCell::new([0; 64]);
+    let proved = |rule: &[u8], take: &[u8]| {
+        black_box(library::judge(black_box(rule), black_box(take), black_box(&mut *text.borrow_mut())));
+    };
+    let in_rust = |rule: &[u8], take: &[u8]| {
+        black_box(plain(black_box(rule), black_box(take)));
+    };
+    let mut parts = Vec::new();
     for (name, rule, take) in &inputs {
-        measure(name, rule, take);
+        let other = narrower(rule);
+        assert_eq!(plain(&other, take), "refused=7\nfile=0\nline=0\n");
+        let jobs: [&dyn Fn(); 4] =
+            [&|| proved(rule, take), &|| in_rust(rule, take), &|| proved(&other, take), &|| in_rust(&other, take)];
+        let times = measure(&jobs);
+        let (a, b, c, d) = (times[0], times[1], times[2], times[3]);
+        println!("| {name} | {:.1} | {:.1} | {:.1} | {:.1} | {:.2} | {:.2} |", a.0, a.1, b.0, b.1, a.0 / b.0, a.1 / b.1);
+        parts.push(format!(
+            "| {name} | {:.1} | {:.1} | {:.2} | {:.1} | {:.1} | {:.2} |",
+            c.0, d.0, c.0 / d.0, a.0 - c.0, b.0 - d.0, (a.0 - c.0) / (b.0 - d.0)
+        ));
     }
+    println!("\nbest times of reading two files that then differ in `signals`, and what judging adds to it\n");
+    println!("| rule and take | reading: proved | plain Rust | ratio | judging: proved | plain Rust | ratio |");
+    println!("|---|---|---|---|---|---|---|");
+    println!("{}", parts.join("\n"));
 }
