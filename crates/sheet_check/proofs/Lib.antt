@@ -2,3 +2,5 @@ pub mod RunLoop
 pub mod SurveyLoop
 pub mod Findings
 pub mod Conclusions
+pub mod Answers
+pub mod Demand

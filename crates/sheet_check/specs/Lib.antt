@@ -2,3 +2,4 @@ pub mod RowRun
 pub mod Survey
 pub mod Finding
 pub mod Conclusion
+pub mod Answer
