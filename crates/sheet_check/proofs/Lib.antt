@@ -4,3 +4,4 @@ pub mod Findings
 pub mod Conclusions
 pub mod Answers
 pub mod Demand
+pub mod ByRun

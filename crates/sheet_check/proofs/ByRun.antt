@@ -1,0 +1,100 @@
+-- The finding on tables in range, computed: the check's own way, as definitions. The cases use it. Assumes nothing.
+use Prim.Native.Nat.{ℕ, zero, suc, _+_, _-_, _≤_, _<_}
+use mathlib.Core.Path.{_≡_, refl, sym, ap, subst, _∙_}
+use mathlib.Core.Bool.{Bool, true, false}
+use mathlib.Core.List.{List, []}
+use native.Mathlib.Numerals.{add-one}
+use native.Mathlib.Omega.{arith}
+use lib.Dec.{ltb}
+use lib.ListN.{getD}
+use Rattle.tables.specs.Choice.{pick}
+use Rattle.tables.specs.Bit.{bitAt}
+use Rattle.tables.specs.declared.row.Row.{Row}
+use Rattle.tables.specs.declared.row.Row.the-variants.{Constant, Signal, Unary, Binary}
+use Rattle.tables.specs.declared.row.NormalForm.{NormalForm}
+use Rattle.tables.specs.declared.trace.Activation.{Activation}
+use Rattle.tables.specs.declared.trace.Line.{Line}
+use Rattle.tables.specs.declared.trace.Trace.{Trace}
+use Rattle.take_file.specs.Valid.{InRange}
+use Rattle.meaning.specs.Satisfaction.{tableOf}
+use Rattle.monitors.specs.declared.Output.{Output}
+use Rattle.monitors.specs.Monitor.{rowMonitor}
+use Rattle.monitors.specs.Sheet.{activatorAt}
+use Rattle.sheet_check.specs.declared.finding.Finding.{Finding}
+use Rattle.sheet_check.specs.declared.finding.Finding.the-variants.{Root}
+use Rattle.sheet_check.specs.declared.row.Course.{Course}
+use Rattle.sheet_check.specs.declared.row.Reads.{Reads}
+use Rattle.sheet_check.specs.declared.row.RowRun.{RowRun}
+use Rattle.sheet_check.specs.declared.survey.Survey.{Survey}
+use Rattle.sheet_check.specs.RowRun.{RowRunOf}
+use Rattle.sheet_check.specs.Survey.{noted, SurveyTo}
+use Rattle.sheet_check.specs.Finding.{FindingOf}
+use Rattle.sheet_check.specs.Conclusion.{courseOf, concluded}
+use Rattle.sheet_check.proofs.RunLoop.{RunTo, run-start, run-fails, run-goes, run-ends}
+use Rattle.sheet_check.proofs.SurveyLoop.{ReadsOf, reads-of, survey-start, survey-next}
+use Rattle.sheet_check.proofs.Findings.{root-only, finding-by}
+use Rattle.sheet_check.proofs.Conclusions.{concluded-finding}
+
+-- ---- one row
+
+module _ (row : Row) (reads : Reads) (course : Course) where
+  abbrev pub Ran : Type 0
+  Ran = (run : RowRun) × RowRunOf row reads course run
+
+  unfoldable pub run-from : (left i c : ℕ) (run : RowRun) → i + left ≡ course .end → RunTo row reads course i c run → Ran
+  run-from zero i c run e to = (run, run-ends row reads course to (omega arith))
+  run-from (suc left) i c run e to = by (said .failed) refl (λ f. run-from left (i + 1) _ _ (omega arith) (run-goes row reads course to (omega arith) {said = said} refl f refl))
+    where
+      said : Output
+      said = rowMonitor row (bitAt (reads .first) c) (bitAt (reads .second) c) (record { active = bitAt (reads .active) c; pending = run .pending })
+
+      by : (b : Bool) → said .failed ≡ b → (said .failed ≡ false → Ran) → Ran
+      by true f goes = (_, run-fails row reads course to (omega arith) {said = said} refl f)
+      by false f goes = goes f
+
+  unfoldable pub ran : Ran
+  ran = run-from (course .end) 0 0 _ (omega arith) (run-start row reads course)
+
+-- ---- all rows
+
+abbrev pub lineOr : List Line → ℕ → Line
+lineOr lines k = getD lines k (record { words = [] })
+
+module _ (g : NormalForm) (t : Trace) (a : Activation) (course : Course) where
+  abbrev pub readsFor : Row → ℕ → Reads
+  readsFor (Constant c) k = record { active = lineOr (a .lines) k; first = lineOr [] 0; second = lineOr [] 0 }
+  readsFor (Signal c s) k = record { active = lineOr (a .lines) k; first = lineOr (t .lines) (s - 1); second = lineOr [] 0 }
+  readsFor (Unary c b) k = record { active = lineOr (a .lines) k; first = lineOr (a .lines) (b - 1); second = lineOr [] 0 }
+  readsFor (Binary c b d) k = record { active = lineOr (a .lines) k; first = lineOr (a .lines) (b - 1); second = lineOr (a .lines) (d - 1) }
+
+  pub reads-for : (r : Row) (k : ℕ) → ReadsOf t a r (suc k) (readsFor r k)
+  reads-for (Constant c) k = reads-of t a refl refl k refl tt
+  reads-for (Signal c s) k = reads-of t a refl refl k refl refl
+  reads-for (Unary c b) k = reads-of t a refl refl k refl refl
+  reads-for (Binary c b d) k = reads-of t a refl refl k refl (refl, refl)
+
+  abbrev pub Surveyed : Type 0
+  Surveyed = (s : Survey) × SurveyTo g t a course (g .rows) s
+
+  unfoldable pub survey-from : (left m : ℕ) (s : Survey) → m + left ≡ g .rows → SurveyTo g t a course m s → Surveyed
+  survey-from zero m s e to = let q : m ≡ g .rows = omega arith in (s, subst (λ n. SurveyTo g t a course n s) q to)
+  survey-from (suc left) m s e to =
+      let r : Row = tableOf (g .places) (suc m) in
+      let x = ran r (readsFor r m) course in
+      survey-from left (suc m) (noted s (m + 1) (x .0)) (omega arith) (survey-next g t a course to (reads-for r m) (x .1))
+
+  unfoldable pub surveyed : Surveyed
+  surveyed = survey-from (g .rows) 0 _ (omega arith) (survey-start g t a course)
+
+-- ---- the finding
+
+unfoldable pub computedFinding : NormalForm → Trace → Activation → Finding
+computedFinding g t a = pick (activatorAt a 0 (g .rows)) (concluded (t .ending) (courseOf (t .cycles) (t .ending) .end) (surveyed g t a (courseOf (t .cycles) (t .ending)) .0)) Root
+
+pub finding-computed : (g : NormalForm) (t : Trace) (a : Activation) → InRange t → FindingOf g t a (computedFinding g t a)
+unfolding computedFinding
+finding-computed g t a range = by (activatorAt a 0 (g .rows)) refl
+  where
+    by : (b : Bool) → activatorAt a 0 (g .rows) ≡ b → FindingOf g t a (pick b (concluded (t .ending) (courseOf (t .cycles) (t .ending) .end) (surveyed g t a (courseOf (t .cycles) (t .ending)) .0)) Root)
+    by true set = let s = surveyed g t a (courseOf (t .cycles) (t .ending)) in concluded-finding g t a (range .some-cycles) set (t .ending) refl (range .loop) (s .0) (s .1)
+    by false unset = finding-by g t a (t .ending) refl Root unset (root-only g t a (t .ending) unset)
