@@ -1,0 +1,4 @@
+pub mod Stripes
+pub mod Checks
+pub mod Outputs
+pub mod Answers

@@ -1,0 +1,74 @@
+-- The step service (01, "Monitors"): when it refuses, what it answers, and what it leaves in the lent buffer. Assumes nothing.
+use Prim.Native.Nat.{ℕ, suc, _+_, _*_, _-_}
+use mathlib.Core.Bool.{Bool, _&&_}
+use mathlib.Core.List.{List, _++_}
+use lib.Dec.{eqb, leb}
+use lib.ListN.{length, getD, drop}
+use Rattle.tables.specs.Choice.{pick}
+use Rattle.tables.specs.Place.{tabulate}
+use Rattle.tables.specs.Refusal.{andThen, callRefused, onOutcome}
+use Rattle.tables.specs.declared.refusal.Reason.the-variants.{WrongForm, SignalsDiffer, SizeDiffers, ShortBuffer}
+use Rattle.tables.specs.declared.refusal.Outcome.{Outcome}
+use Rattle.tables.specs.declared.refusal.Outcome.the-variants.{Accepted}
+use Rattle.tables.specs.declared.row.Formula.{Formula}
+use Rattle.tables.specs.declared.row.NormalForm.{NormalForm}
+use Rattle.text.specs.Digits.{areDigits}
+use Rattle.text.specs.Result.{outcomeOf}
+use Rattle.rule_file.specs.Rule.{parseRule}
+use Rattle.rule_file.specs.Written.{writtenRule}
+use Rattle.meaning.specs.Satisfaction.{tableOf}
+use Rattle.normal_form.specs.declared.sign.Sign.the-variants.{Plain}
+use Rattle.normal_form.specs.Numbering.{normalForm}
+use Rattle.monitors.specs.declared.Output.{Output}
+use Rattle.monitors.specs.Monitor.{monitor}
+use Rattle.writing.specs.declared.answer.Bytes.{Bytes}
+use Rattle.writing.specs.declared.answer.Bytes.the-variants.{Count, Refused}
+
+-- "as digits 0 or 1": the digit of row or signal k, which count from 1; and the digit (byte 48 or 49) that is written
+abbrev pub digitAt : List ℕ → ℕ → Bool
+digitAt digits k = eqb (getD digits (k - 1) 0) 49
+
+abbrev pub digitOf : Bool → ℕ
+digitOf b = pick b 49 48
+
+-- ---- the step of a normal form: "each row's pending one cycle earlier, each row's activator and each signal"
+
+module _ (g : NormalForm) (pendings activators signals : List ℕ) where
+  -- what row k's monitor says
+  abbrev pub rowOutput : ℕ → Output
+  rowOutput k =
+      monitor (digitAt activators) (digitAt signals) (tableOf (g .places) k) (record { active = digitAt activators k; pending = digitAt pendings k })
+
+  -- "the digits of failed, then accept, then pending, each by row"
+  unfoldable pub formOutput : List ℕ
+  formOutput =
+      tabulate (g .rows) (λ i. digitOf (rowOutput (suc i) .failed))
+      ++ (tabulate (g .rows) (λ i. digitOf (rowOutput (suc i) .accept))
+      ++ tabulate (g .rows) (λ i. digitOf (rowOutput (suc i) .pending)))
+
+  -- "another byte gives 2, another number of signals 7, of pendings or activators 9, a short buffer 10, in that order, with file and
+  -- line 0"
+  abbrev pub formOutcome : ℕ → Outcome
+  formOutcome room =
+      andThen (pick ((areDigits pendings && areDigits activators) && areDigits signals) Accepted (callRefused WrongForm))
+      (andThen (pick (eqb (length signals) (g .signals)) Accepted (callRefused SignalsDiffer))
+      (andThen (pick (eqb (length pendings) (g .rows) && eqb (length activators) (g .rows)) Accepted (callRefused SizeDiffers))
+      (pick (leb (3 * g .rows) room) Accepted (callRefused ShortBuffer))))
+
+-- ---- the service
+
+module _ (f : Formula) (pendings activators signals buf : List ℕ) where
+  -- "After the rule's own refusals": "A table handed to a service is checked as if written out as its file"
+  abbrev pub stepOutcome : Outcome
+  stepOutcome = andThen (outcomeOf 1 (parseRule (writtenRule f))) (formOutcome (normalForm f Plain) pendings activators signals (length buf))
+
+  abbrev pub stepOutput : List ℕ
+  stepOutput = formOutput (normalForm f Plain) pendings activators signals
+
+  -- the first refusal, or how many bytes were written: three for each row
+  abbrev pub stepAnswer : Bytes
+  stepAnswer = onOutcome stepOutcome Refused (Count (3 * normalForm f Plain .rows))
+
+  -- a refused call leaves every byte; "an output fills its own length and the bytes behind it stay" (demand 1)
+  abbrev pub stepLeft : List ℕ
+  stepLeft = onOutcome stepOutcome (λ r. buf) (stepOutput ++ drop (3 * normalForm f Plain .rows) buf)

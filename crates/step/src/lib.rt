@@ -1,0 +1,132 @@
+// One cycle of the monitors of a rule, as a service (01, "Monitors").
+use monitors::Output;
+use monitors::State;
+use normal_form::sign::Sign;
+use tables::refusal::Outcome;
+use tables::refusal::Reason;
+use tables::refusal::call_refused;
+use tables::row::Formula;
+use tables::row::NormalForm;
+use tables::row::Row;
+use text::digits::are_digits;
+use writing::answer::Bytes;
+ghost use mathlib.Core.Path.{_≡_};
+ghost use mathlib.Core.List.{_++_};
+ghost use Prim.Native.Nat.{_*_, _≤_};
+ghost use lib.ListN.{length, drop};
+ghost use Rattle.meaning.proofs.Rows.{Each, EachSignal};
+ghost use Rattle.monitors.specs.Monitor.{monitor};
+ghost use Rattle.normal_form.specs.Form.{InNormalForm};
+ghost use Rattle.step.specs.Fitting.{Fitting};
+ghost use Rattle.step.specs.Step.{digitAt, digitOf, formOutcome, formOutput, stepAnswer, stepLeft};
+
+// Digit `number` of a slice, counted from 1.
+fn is_on(digits: &[u8], number: usize) -> bool
+    requires { ⌜ (1 ≤ number) × (number ≤ length (now digits)) ⌝ }
+    ensures { λ r. ⌜ r ≡ digitAt (now (digits .entry)) number ⌝ }
+{
+    digits[number - 1] == b'1'
+}
+
+fn digit(on: bool) -> u8
+    ensures { λ r. ⌜ r ≡ digitOf on ⌝ }
+{
+    if on { b'1' } else { b'0' }
+}
+
+// What the monitor of a row says.
+fn row_output(row: Row, state: State, activators: &[u8], signals: &[u8]) -> Output
+    requires { ⌜ Each (λ a. (1 ≤ a) × (a ≤ length (now activators))) row ⌝ }
+    requires { ⌜ EachSignal (λ s. (1 ≤ s) × (s ≤ length (now signals))) row ⌝ }
+    ensures { λ r. ⌜ r ≡ monitor (digitAt (now (activators .entry))) (digitAt (now (signals .entry))) row state ⌝ }
+{
+    match row {
+        Row::Constant(kind) => monitors::constant(kind, state),
+        Row::Signal(kind, s) => monitors::signal(kind, is_on(signals, s as usize), state),
+        Row::Unary(kind, a) => monitors::unary(kind, is_on(activators, a as usize), state),
+        Row::Binary(kind, a, b) => monitors::binary(
+            kind,
+            is_on(activators, a as usize),
+            is_on(activators, b as usize),
+            state,
+        ),
+    }
+}
+
+// The digits of all rows, at the buffer's start.
+fn put_outputs(buf: &mut [u8], form: NormalForm, pendings: &[u8], activators: &[u8], signals: &[u8])
+    requires { ⌜ InNormalForm form × Fitting form (now pendings) (now activators) (now signals) (length (now buf)) ⌝ }
+    ensures { λ r. ⌜ now (buf .exit) ≡ formOutput form (now (pendings .entry)) (now (activators .entry)) (now (signals .entry)) ++ drop (3 * form .rows) (now (buf .entry)) ⌝ }
+{
+    let rows = form.rows as usize;
+    let mut k = 0;
+    while k < rows {
+        let place = form.places[k];
+        let row = place.row;
+        let state = State {
+            active: is_on(activators, k + 1),
+            pending: is_on(pendings, k + 1),
+        };
+        let output = row_output(row, state, activators, signals);
+        buf[k] = digit(output.failed);
+        buf[rows + k] = digit(output.accept);
+        buf[2 * rows + k] = digit(output.pending);
+        k += 1;
+    }
+}
+
+// The refusals of a call on a rule that has passed its own check.
+fn check_call(
+    form: NormalForm,
+    pendings: &[u8],
+    activators: &[u8],
+    signals: &[u8],
+    room: usize,
+) -> Outcome
+    ensures { λ r. ⌜ r ≡ formOutcome form (now (pendings .entry)) (now (activators .entry)) (now (signals .entry)) room ⌝ }
+{
+    let rows = form.rows as usize;
+    let digits = are_digits(pendings) & are_digits(activators) & are_digits(signals);
+    if !digits {
+        return call_refused(Reason::WrongForm);
+    }
+    if signals.len() != form.signals as usize {
+        return call_refused(Reason::SignalsDiffer);
+    }
+    let sizes = (pendings.len() == rows) & (activators.len() == rows);
+    if !sizes {
+        return call_refused(Reason::SizeDiffers);
+    }
+    if room < 3 * rows {
+        return call_refused(Reason::ShortBuffer);
+    }
+    Outcome::Accepted
+}
+
+// SERVICE: one cycle of the monitors, from each row's pending one cycle earlier, each row's activator and each signal.
+pub fn step(
+    formula: Formula,
+    pendings: &[u8],
+    activators: &[u8],
+    signals: &[u8],
+    buf: &mut [u8],
+) -> Bytes
+    ensures { λ r. ⌜ r ≡ stepAnswer formula (now (pendings .entry)) (now (activators .entry)) (now (signals .entry)) (now (buf .entry)) ⌝ }
+    ensures { λ r. ⌜ now (buf .exit) ≡ stepLeft formula (now (pendings .entry)) (now (activators .entry)) (now (signals .entry)) (now (buf .entry)) ⌝ }
+{
+    let own = rule_file::check::check_formula(formula);
+    match own {
+        Outcome::Refused(refusal) => Bytes::Refused(refusal),
+        Outcome::Accepted => {
+            let form = normal_form::normal_form(formula, Sign::Plain);
+            let call = check_call(form, pendings, activators, signals, buf.len());
+            match call {
+                Outcome::Refused(refusal) => Bytes::Refused(refusal),
+                Outcome::Accepted => {
+                    put_outputs(buf, form, pendings, activators, signals);
+                    Bytes::Count(3 * (form.rows as usize))
+                }
+            }
+        }
+    }
+}
