@@ -5,7 +5,7 @@ use mathlib.Core.Bool.{Bool, true, false, not, _&&_}
 use mathlib.Core.List.{List}
 use lib.Dec.{eqb, leb}
 use lib.ListN.{length}
-use borrow.Author.Tests.{not-true, not-false, eq-eqb, ne-eqb, eqb-true, le-leb, lt-leb, leb-true}
+use borrow.Author.Tests.{not-true, not-false, eqb-true, le-leb, lt-leb, leb-true}
 use Rattle.tables.specs.Choice.{pick}
 use Rattle.tables.specs.Refusal.{andThen, callRefused}
 use Rattle.tables.proofs.Outcomes.{stops, goes, fails, passes, both-accept, test-accepts}
@@ -23,6 +23,9 @@ both-on true b e = (refl, e)
 both-on false b e = clash (cc)
 
 module _ (g : NormalForm) (p a s : List ℕ) (room : ℕ) where
+  abbrev counted : Bool
+  counted = eqb (length s) (g .signals)
+
   abbrev sized : Bool
   sized = eqb (length p) (g .rows) && eqb (length a) (g .rows)
 
@@ -31,10 +34,10 @@ module _ (g : NormalForm) (p a s : List ℕ) (room : ℕ) where
   FromRoom = pick (leb (3 * g .rows) room) Accepted (callRefused ShortBuffer)
 
   abbrev FromSizes : Outcome
-  FromSizes = andThen (pick (eqb (length p) (g .rows) && eqb (length a) (g .rows)) Accepted (callRefused SizeDiffers)) FromRoom
+  FromSizes = andThen (pick sized Accepted (callRefused SizeDiffers)) FromRoom
 
   abbrev FromSignals : Outcome
-  FromSignals = andThen (pick (eqb (length s) (g .signals)) Accepted (callRefused SignalsDiffer)) FromSizes
+  FromSignals = andThen (pick counted Accepted (callRefused SignalsDiffer)) FromSizes
 
   module _ {x y z : Bool} (ep : x ≡ areDigits p) (ea : y ≡ areDigits a) (es : z ≡ areDigits s) where
     digits : ((x && y) && z) ≡ ((areDigits p && areDigits a) && areDigits s)
@@ -47,12 +50,12 @@ module _ (g : NormalForm) (p a s : List ℕ) (room : ℕ) where
       from-signals : FromSignals ≡ formOutcome g p a s room
       from-signals = goes FromSignals (passes WrongForm (sym digits ∙ not-false _ d)) refl
 
-      pub other-signals : (length s ≡ g .signals → ⊥) → callRefused SignalsDiffer ≡ formOutcome g p a s room
-      other-signals n = stops FromSizes (fails SignalsDiffer (ne-eqb (length s) (g .signals) n)) refl ∙ from-signals
+      pub other-signals : not counted ≡ true → callRefused SignalsDiffer ≡ formOutcome g p a s room
+      other-signals n = stops FromSizes (fails SignalsDiffer (not-true counted n)) refl ∙ from-signals
 
-      module _ (e : length s ≡ g .signals) where
+      module _ (e : not counted ≡ false) where
         from-sizes : FromSizes ≡ formOutcome g p a s room
-        from-sizes = goes FromSizes (passes SignalsDiffer (eq-eqb (length s) (g .signals) e)) refl ∙ from-signals
+        from-sizes = goes FromSizes (passes SignalsDiffer (not-false counted e)) refl ∙ from-signals
 
         pub other-sizes : not sized ≡ true → callRefused SizeDiffers ≡ formOutcome g p a s room
         other-sizes n = stops FromRoom (fails SizeDiffers (not-true sized n)) refl ∙ from-sizes
@@ -71,8 +74,8 @@ module _ (g : NormalForm) (p a s : List ℕ) (room : ℕ) where
   pub accepted-fits : formOutcome g p a s room ≡ Accepted → Fitting g p a s room
   accepted-fits e =
       let x = both-accept (pick ((areDigits p && areDigits a) && areDigits s) Accepted (callRefused WrongForm)) FromSignals e in
-      let y = both-accept (pick (eqb (length s) (g .signals)) Accepted (callRefused SignalsDiffer)) FromSizes (x .1) in
-      let z = both-accept (pick (eqb (length p) (g .rows) && eqb (length a) (g .rows)) Accepted (callRefused SizeDiffers)) FromRoom (y .1) in
+      let y = both-accept (pick counted Accepted (callRefused SignalsDiffer)) FromSizes (x .1) in
+      let z = both-accept (pick sized Accepted (callRefused SizeDiffers)) FromRoom (y .1) in
       let sizes = both-on (eqb (length p) (g .rows)) (eqb (length a) (g .rows)) (test-accepts SizeDiffers _ (z .0)) in
       record {
         signals-agree = eqb-true (length s) (g .signals) (test-accepts SignalsDiffer _ (y .0));

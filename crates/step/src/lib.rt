@@ -87,13 +87,14 @@ fn check_call(
 {
     let rows = form.rows as usize;
     let digits = are_digits(pendings) & are_digits(activators) & are_digits(signals);
+    let count = signals.len() == form.signals as usize;
+    let sizes = (pendings.len() == rows) & (activators.len() == rows);
     if !digits {
         return call_refused(Reason::WrongForm);
     }
-    if signals.len() != form.signals as usize {
+    if !count {
         return call_refused(Reason::SignalsDiffer);
     }
-    let sizes = (pendings.len() == rows) & (activators.len() == rows);
     if !sizes {
         return call_refused(Reason::SizeDiffers);
     }
