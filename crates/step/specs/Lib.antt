@@ -1,2 +1,3 @@
 pub mod Fitting
 pub mod Step
+pub mod Calls

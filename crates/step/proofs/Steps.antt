@@ -1,0 +1,166 @@
+-- What an answered call of the step service leaves and hands on, byte by byte. Assumes nothing.
+use Prim.Native.Nat.{ℕ, suc, _+_, _*_, _-_, _<_}
+use mathlib.Core.Path.{_≡_, refl, sym, ap, _∙_}
+use mathlib.Core.Bool.{Bool, true, false}
+use mathlib.Core.List.{List, _++_, append-assoc}
+use native.Mathlib.Omega.{arith}
+use lib.Dec.{eqb}
+use lib.ListN.{length, getD, drop, length-append, getD-replicate, List·getD-append}
+use lib.Seq.{getD-append-add, take-at, drop-at}
+use Rattle.tables.specs.Place.{tabulate}
+use Rattle.tables.specs.Refusal.{onOutcome}
+use Rattle.tables.proofs.Places.{length-tabulate, getD-tabulate}
+use Rattle.tables.proofs.Outcomes.{both-accept}
+use Rattle.tables.specs.declared.refusal.Outcome.{Outcome}
+use Rattle.tables.specs.declared.refusal.Outcome.the-variants.{Accepted, Refused}
+use Rattle.tables.specs.declared.row.Formula.{Formula}
+use Rattle.tables.specs.declared.row.NormalForm.{NormalForm}
+use Rattle.text.specs.Result.{outcomeOf}
+use Rattle.text.specs.Search.{part}
+use Rattle.text.proofs.Searching.{clash}
+use Rattle.rule_file.specs.Rule.{parseRule}
+use Rattle.rule_file.specs.Valid.{InRange}
+use Rattle.rule_file.specs.Written.{writtenRule}
+use Rattle.rule_file.proofs.Rules.{checked}
+use Rattle.normal_form.specs.declared.sign.Sign.the-variants.{Plain}
+use Rattle.normal_form.specs.Numbering.{normalForm}
+use Rattle.writing.specs.declared.answer.Bytes.{Bytes}
+use Rattle.writing.specs.declared.answer.Bytes.the-variants.{Count, Refused as BytesRefused}
+use Rattle.step.specs.Step.{digitAt, digitOf, rowOutput, formOutcome, formOutput, stepOutcome, stepAnswer}
+use Rattle.step.specs.Calls.{Call, onAnswer, rowsIn, handed, answered, left}
+use Rattle.step.proofs.Outputs.{failedDigit, acceptDigit, pendingDigit}
+use Rattle.step.proofs.Answers.{answered-answer, answered-left}
+
+-- a digit is 1 exactly where it stands for true
+pub digit-says : (b : Bool) → eqb (digitOf b) 49 ≡ b
+digit-says true = refl
+digit-says false = refl
+
+pub digit-one : (b : Bool) → digitOf b ≡ 49 → b ≡ true
+digit-one true e = refl
+digit-one false e = absurd (omega arith)
+
+pub digit-not-one : (b : Bool) → ¬ (digitOf b ≡ 49) → b ≡ false
+digit-not-one true n = absurd (n refl)
+digit-not-one false n = refl
+
+-- ---- the three runs of the output
+module _ (g : NormalForm) (p a s rest : List ℕ) where
+  abbrev n : ℕ
+  n = g .rows
+
+  failed : List ℕ
+  failed = tabulate n (failedDigit g p a s)
+
+  accept : List ℕ
+  accept = tabulate n (acceptDigit g p a s)
+
+  pending : List ℕ
+  pending = tabulate n (pendingDigit g p a s)
+
+  runs : formOutput g p a s ++ rest ≡ failed ++ (accept ++ (pending ++ rest))
+  unfolding formOutput failed accept pending
+  runs = rw (append-assoc, append-assoc)
+
+  failed-size : length failed ≡ n
+  unfolding failed
+  failed-size = length-tabulate n 0 (failedDigit g p a s)
+
+  accept-size : length accept ≡ n
+  unfolding accept
+  accept-size = length-tabulate n 0 (acceptDigit g p a s)
+
+  pending-size : length pending ≡ n
+  unfolding pending
+  pending-size = length-tabulate n 0 (pendingDigit g p a s)
+
+  module _ (k : ℕ) (h : k < n) where
+    pub failed-byte : getD (formOutput g p a s ++ rest) k 0 ≡ failedDigit g p a s k
+    unfolding failed
+    failed-byte =
+        ap (λ l. getD l k 0) runs ∙ (List·getD-append failed (accept ++ (pending ++ rest)) 0 k (omega (arith, failed-size)) ∙ getD-tabulate n (failedDigit g p a s) k 0 h)
+
+    pub accept-byte : getD (formOutput g p a s ++ rest) (n + k) 0 ≡ acceptDigit g p a s k
+    unfolding accept
+    accept-byte =
+        ap (λ l. getD l (n + k) 0) runs
+        ∙ (ap (λ m. getD (failed ++ (accept ++ (pending ++ rest))) (m + k) 0) (sym failed-size)
+        ∙ (getD-append-add failed (accept ++ (pending ++ rest)) k 0
+        ∙ (List·getD-append accept (pending ++ rest) 0 k (omega (arith, accept-size)) ∙ getD-tabulate n (acceptDigit g p a s) k 0 h)))
+
+  pub pending-part : part (2 * n) (3 * n) (formOutput g p a s ++ rest) ≡ tabulate n (pendingDigit g p a s)
+  unfolding pending
+  pending-part =
+      let e : 3 * n - 2 * n ≡ n = omega arith in
+      let l : length (failed ++ accept) ≡ 2 * n = simp length-append (omega (arith, failed-size, accept-size)) in
+      let w : formOutput g p a s ++ rest ≡ (failed ++ accept) ++ (pending ++ rest) = runs ∙ sym (append-assoc failed accept (pending ++ rest)) in
+      rw (e, w, drop-at (failed ++ accept) (pending ++ rest) (2 * n) l) (take-at pending rest n pending-size)
+
+-- ---- a call
+
+module _ (f : Formula) (calls : ℕ → Call) (i : ℕ) where
+  abbrev g : NormalForm
+  g = normalForm f Plain
+
+  abbrev p : List ℕ
+  p = handed f calls i
+
+  abbrev a : List ℕ
+  a = calls i .activators
+
+  abbrev s : List ℕ
+  s = calls i .signals
+
+  abbrev outcome : Outcome
+  outcome = stepOutcome f p a s (calls i .buffer)
+
+  accepts : answered f calls i ≡ true → outcome ≡ Accepted
+  accepts e = by outcome e
+    where
+      by : (o : Outcome) → onAnswer (onOutcome o BytesRefused (Count (3 * g .rows))) true false ≡ true → o ≡ Accepted
+      by Accepted e = refl
+      by (Refused r) e = clash (cc)
+
+  -- a call is answered only where the rule passes its check
+  pub answered-range : answered f calls i ≡ true → InRange f
+  answered-range e = checked f (both-accept (outcomeOf 1 (parseRule (writtenRule f))) (formOutcome g p a s (length (calls i .buffer))) (accepts e) .0)
+
+  module _ (e : answered f calls i ≡ true) where
+    left-is : left f calls i ≡ formOutput g p a s ++ drop (3 * g .rows) (calls i .buffer)
+    left-is = answered-left f p a s (calls i .buffer) (accepts e)
+
+    handed-is : handed f calls (suc i) ≡ tabulate (g .rows) (pendingDigit g p a s)
+    unfolding handed
+    handed-is =
+        rw (answered-answer f p a s (calls i .buffer) (accepts e))
+        (ap (part (2 * g .rows) (3 * g .rows)) left-is ∙ pending-part g p a s (drop (3 * g .rows) (calls i .buffer)))
+
+    module _ (k : ℕ) (h : k < rowsIn f) where
+      pub left-failed : getD (left f calls i) k 0 ≡ digitOf (rowOutput g p a s (suc k) .failed)
+      left-failed = ap (λ l. getD l k 0) left-is ∙ failed-byte g p a s (drop (3 * g .rows) (calls i .buffer)) k h
+
+      pub left-accept : getD (left f calls i) (rowsIn f + k) 0 ≡ digitOf (rowOutput g p a s (suc k) .accept)
+      left-accept = ap (λ l. getD l (rowsIn f + k) 0) left-is ∙ accept-byte g p a s (drop (3 * g .rows) (calls i .buffer)) k h
+
+      -- the pendings that the next call gets
+      pub handed-on : digitAt (handed f calls (suc i)) (suc k) ≡ rowOutput g p a s (suc k) .pending
+      handed-on =
+          let z : suc k - 1 ≡ k = omega arith in
+          ap (λ d. eqb d 49) (ap (λ m. getD (handed f calls (suc i)) m 0) z ∙ (ap (λ l. getD l k 0) handed-is ∙ getD-tabulate (g .rows) (pendingDigit g p a s) k 0 h))
+          ∙ digit-says (rowOutput g p a s (suc k) .pending)
+
+  -- a refused call hands on what it got
+  pub handed-back : answered f calls i ≡ false → handed f calls (suc i) ≡ handed f calls i
+  unfolding handed
+  handed-back e = by (stepAnswer f p a s (calls i .buffer)) e
+    where
+      by : (b : Bytes) → onAnswer b true false ≡ false → onAnswer b (part (2 * rowsIn f) (3 * rowsIn f) (left f calls i)) p ≡ p
+      by (Count m) e = clash (cc)
+      by (BytesRefused r) e = refl
+
+-- "calls get pendings that are all 0"
+pub handed-fresh : (f : Formula) (calls : ℕ → Call) (k : ℕ) → k < rowsIn f → digitAt (handed f calls 0) (suc k) ≡ false
+unfolding handed
+handed-fresh f calls k h = let z : suc k - 1 ≡ k = omega arith in
+    let zero-digit : ℕ = 48 in
+    rw (z, getD-replicate (rowsIn f) k zero-digit 0 h)
