@@ -1,16 +1,12 @@
 -- Laws of texts put one behind the other into a buffer. Assumes nothing.
 use Prim.Native.Nat.{ℕ, zero, suc, _+_, _*_, _-_, _/_, _%_, _≤_, _<_}
 use mathlib.Core.Path.{_≡_, refl, sym, ap, ap₂, subst, _∙_}
-use mathlib.Core.List.{List, [], _∷_, _++_, append-assoc, append-nil}
+use mathlib.Core.List.{List, [], _∷_, _++_, map, append-assoc, append-nil}
 use native.Mathlib.Numerals.{add-one}
 use native.Mathlib.Omega.{arith}
-use lib.ListN.{length, getD, set, take, drop, length-append, length-set, length-take, take-append-drop}
-use lib.Seq.{paste, paste-suc, length-paste, take-paste, drop-paste, take-all, take-suc, drop-drop, drop-set-lt, take-suc-set, length-take-le}
+use lib.ListN.{length, getD, set, take, drop, length-append, length-set, length-take, take-append-drop, length-map, List·getD-map}
+use lib.Seq.{paste, paste-suc, length-paste, take-paste, drop-paste, take-all, take-suc, drop-drop, drop-set-lt, take-suc-set, length-take-le, getD-take}
 use borrow.Author.Tests.{lt-ltb, le-ltb, le-leb, lt-leb}
-use Rattle.tables.specs.Used.{usedRows}
-use Rattle.tables.proofs.UsedRows.{used-size, used-at}
-use Rattle.tables.specs.declared.row.RowPlace.{RowPlace}
-use Rattle.rule_file.specs.Written.{writtenRow}
 use Rattle.text.specs.Written.{decimalIn, decimal, writtenLine, writtenBody}
 use Rattle.writing.specs.Lent.{Wrote, overlaid}
 
@@ -107,13 +103,18 @@ module _ {A : Type 0} (letter : ℕ) (text : A → List ℕ) where
       let q : take (k + 1) xs ≡ take k xs ++ (getD xs k d ∷ []) = ap (λ n. take n xs) (add-one k) ∙ take-suc xs k d h in
       sym (rw (q, body-more (take k xs) (getD xs k d) 1, e))
 
--- the lines of the first k + 1 used rows of a table
-pub rows-next : (rows : ℕ) (places : List RowPlace) (k : ℕ) (d : RowPlace) → rows ≤ length places → k < rows
-    → writtenBody 114 writtenRow 1 (take k (usedRows rows places)) ++ writtenLine (114 ∷ decimal (k + 1)) (writtenRow (getD places k d .row)) [] ≡ writtenBody 114 writtenRow 1 (take (k + 1) (usedRows rows places))
-rows-next rows places k d h l =
-    let n : k < length (usedRows rows places) = rw (used-size rows places h) l in
-    let b = body-next 114 writtenRow (usedRows rows places) k (d .row) n in
-    rw (used-at rows places k d l) at b
+-- the lines of a table's used places, of which f says what they hold
+module _ {A B : Type 0} (f : A → B) (n : ℕ) (places : List A) (room : n ≤ length places) where
+  used-length : length (map f (take n places)) ≡ n
+  used-length = length-map (take n places) f ∙ length-take-le n places room
 
-pub rows-all : (rows : ℕ) (places : List RowPlace) (k : ℕ) → rows ≤ length places → rows ≤ k → take k (usedRows rows places) ≡ usedRows rows places
-rows-all rows places k h l = take-all k (usedRows rows places) (rw (used-size rows places h) l)
+  -- those of the first k + 1
+  pub places-next : (letter : ℕ) (text : B → List ℕ) (k : ℕ) (d : A) → k < n
+      → writtenBody letter text 1 (take k (map f (take n places))) ++ writtenLine (letter ∷ decimal (k + 1)) (text (f (getD places k d))) [] ≡ writtenBody letter text 1 (take (k + 1) (map f (take n places)))
+  places-next letter text k d l =
+      let h : k < length (map f (take n places)) = rw used-length l in
+      let b = body-next letter text (map f (take n places)) k (f d) h in
+      rw (List·getD-map f (take n places) k d, getD-take n places k d l) at b
+
+  pub places-all : (k : ℕ) → n ≤ k → take k (map f (take n places)) ≡ map f (take n places)
+  places-all k l = take-all k (map f (take n places)) (rw used-length l)

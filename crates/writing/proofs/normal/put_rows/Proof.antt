@@ -3,11 +3,12 @@ use mathlib.Core.Path.{_≡_, sym, ap, _∙_}
 use native.Mathlib.Omega.{arith}
 use lib.ListN.{length, take, length-map}
 use Rattle.tables.specs.Used.{usedRows}
+use Rattle.tables.specs.declared.row.RowPlace.{RowPlace}
 use Rattle.text.specs.Written.{writtenBody}
 use Rattle.rule_file.specs.Rule.{inPlace, unused}
 use Rattle.rule_file.specs.Written.{writtenRow}
 use Rattle.writing.specs.Lent.{Wrote}
-use Rattle.writing.proofs.Texts.{wrote-both, wrote-is, wrote-none, rows-next, rows-all}
+use Rattle.writing.proofs.Texts.{wrote-both, wrote-is, wrote-none, places-next, places-all}
 use borrow.Author.Needs.{needs}
 use Rattle.writing.proofs.normal.put_rows.Statement.{statement}
 use Rattle.writing.proofs.normal.put_rows.Tie as tie
@@ -27,14 +28,14 @@ put-row-line-requires c κs = omega (arith, c .before .before .before .loop .inv
 
 loop-again : tie.Need-loop-again Inv-loop μ-loop
 loop-again c = let e : length (c .before .before .before .before .before .before .before .before .args .t3 .places) ≡ 128 = sym (length-map (c .before .before .before .before .before .before .before .before .args .t3 .places) _) ∙ c .before .before .before .before .before .before .before .before .good .1 .1 .0 .1 .1 .1 .1 .0 .1 .0 .1 in
-    (omega arith, omega (arith, c .before .before .put-row-line .ensures .1), wrote-is (rows-next (c .before .before .before .before .before .before .before .before .args .t3 .rows) (c .before .before .before .before .before .before .before .before .args .t3 .places) (c .before .before .before .before .before .before .loop .k) (inPlace unused) (omega arith) (omega arith)) (wrote-both (c .before .before .before .before .before .before .loop .inv .2) (c .before .before .put-row-line .ensures .0)))
+    (omega arith, omega (arith, c .before .before .put-row-line .ensures .1), wrote-is (places-next (λ (p : RowPlace). p .row) (c .before .before .before .before .before .before .before .before .args .t3 .rows) (c .before .before .before .before .before .before .before .before .args .t3 .places) (omega arith) 114 writtenRow (c .before .before .before .before .before .before .loop .k) (inPlace unused) (omega arith)) (wrote-both (c .before .before .before .before .before .before .loop .inv .2) (c .before .before .put-row-line .ensures .0)))
 
 same-length : tie.Need-same-length Inv-loop μ-loop
 same-length c = c .before .loop .inv .2 .size
 
 returns : tie.Need-returns Inv-loop μ-loop
 returns c = let e : length (c .before .before .before .args .t3 .places) ≡ 128 = sym (length-map (c .before .before .before .args .t3 .places) _) ∙ c .before .before .before .good .1 .1 .0 .1 .1 .1 .1 .0 .1 .0 .1 in
-    wrote-is (ap (writtenBody 114 writtenRow 1) (rows-all (c .before .before .before .args .t3 .rows) (c .before .before .before .args .t3 .places) (c .before .loop .k) (omega arith) (omega arith))) (c .before .loop .inv .2)
+    wrote-is (ap (writtenBody 114 writtenRow 1) (places-all (λ (p : RowPlace). p .row) (c .before .before .before .args .t3 .rows) (c .before .before .before .args .t3 .places) (omega arith) (c .before .loop .k) (omega arith))) (c .before .loop .inv .2)
 
 pub put-rows-spec : {M : Type 1} → statement M
 put-rows-spec =
