@@ -4,8 +4,7 @@ use mathlib.Core.Path.{_≡_, refl, sym, ap, subst, subst⁻¹, _∙_}
 use mathlib.Core.Bool.{Bool, true, false}
 use mathlib.Core.List.{List, []}
 use native.Mathlib.Omega.{arith}
-use lib.Dec.{eqb, leb}
-use lib.ListN.{length}
+use lib.Dec.{eqb}
 use borrow.Author.Tests.{eq-eqb, ne-eqb}
 use Rattle.tables.specs.declared.refusal.Reason.the-variants.{SignalsDiffer, WrongForm}
 use Rattle.tables.specs.declared.refusal.Refusal.{Refusal}
@@ -24,9 +23,6 @@ use Rattle.take_file.specs.declared.take.TakeAnswer.{TakeAnswer}
 use Rattle.take_file.specs.Valid.{Below}
 use Rattle.normal_form.specs.declared.sign.Sign.the-variants.{Plain}
 use Rattle.normal_form.specs.Numbering.{normalForm}
-use Rattle.writing.specs.declared.answer.Bytes.the-variants.{Count, Refused as BytesRefused}
-use Rattle.writing.specs.Answer.{tooShort, writtenAnswer}
-use Rattle.writing.specs.Lent.{overlaid}
 use Rattle.writing.specs.Refusal.{refusalText}
 use Rattle.judging.specs.declared.verdict.Verdict.{Verdict}
 use Rattle.judging.specs.Verdict.{VerdictOf}
@@ -92,15 +88,3 @@ module _ (q : Result Trace) (a : TakeAnswer) (e : a ≡ takeAnswer q) where
 
 pub pair-text : (p : Result Formula) (q : Result Trace) {f : Formula} {t : Trace} → p ≡ accepted f → q ≡ accepted t → (text : List ℕ) → IsPairText (eqb (f .signals) (t .signals)) f t text → IsText p q text
 pair-text p q {f} g h text x = subst⁻¹ (λ p. IsText p q text) g (subst⁻¹ (λ q. IsText (accepted f) q text) h x)
-
--- ---- the text in the lent buffer
-
-module _ (buf : List ℕ) {t text : List ℕ} (q : t ≡ text) where
-  pub fits-answer : {n : ℕ} → n ≡ length t → leb (length t) (length buf) ≡ true → Count n ≡ writtenAnswer text buf
-  fits-answer p h = sym (rw (← q, h, ← p))
-
-  pub short-answer : leb (length t) (length buf) ≡ false → BytesRefused tooShort ≡ writtenAnswer text buf
-  short-answer h = sym (rw (← q, h))
-
-  pub text-left : overlaid t buf ≡ overlaid text buf
-  text-left = ap (λ x. overlaid x buf) q
