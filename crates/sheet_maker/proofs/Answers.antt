@@ -1,0 +1,55 @@
+-- The sheet maker's answers by their cases. Assumes nothing.
+use Prim.Native.Nat.{ℕ, _-_, _≤_}
+use mathlib.Core.Path.{_≡_, refl, sym, ap, subst, subst⁻¹, _∙_}
+use mathlib.Core.Logic.{_↔_}
+use mathlib.Core.Bool.{Bool, true, false}
+use mathlib.Core.List.{List}
+use native.Mathlib.Omega.{arith}
+use Rattle.tables.specs.Bit.{bitAt}
+use Rattle.tables.specs.declared.refusal.Refusal.{Refusal}
+use Rattle.tables.specs.declared.refusal.Outcome.{Outcome}
+use Rattle.tables.specs.declared.refusal.Outcome.the-variants.{Accepted, Refused}
+use Rattle.tables.specs.declared.row.Formula.{Formula}
+use Rattle.tables.specs.declared.trace.Activation.{Activation}
+use Rattle.tables.specs.declared.trace.Trace.{Trace}
+use Rattle.rule_file.specs.Valid.{InRange as FormulaInRange}
+use Rattle.take_file.specs.Valid.{InRange as TraceInRange}
+use Rattle.sheet_file.specs.Written.{writtenSheet}
+use Rattle.meaning.proofs.Readings.{on-and-off}
+use Rattle.normal_form.specs.declared.sign.Sign.the-variants.{Plain}
+use Rattle.normal_form.specs.Numbering.{normalForm}
+use Rattle.normal_form.proofs.Ranges.{form-normal}
+use Rattle.truth.specs.Truth.{lineIn}
+use Rattle.judging.specs.Refusals.{pairOutcome}
+use Rattle.writing.specs.Answer.{writtenAnswer}
+use Rattle.writing.specs.Lent.{overlaid}
+use Rattle.sheet_maker.specs.declared.MakerAnswer.{MakerAnswer}
+use Rattle.sheet_maker.specs.declared.MakerAnswer.the-variants.{Written, None, Refused as MakerRefused}
+use Rattle.sheet_maker.specs.Made.{Satisfied, IsMade}
+use Rattle.sheet_maker.specs.Answer.{answerOf, Answers, Answers.sheet, Answers.none, MakesOn, Makes}
+use Rattle.sheet_maker.proofs.Sheets.{made-root}
+
+module _ (f : Formula) (t : Trace) (before : List ℕ) where
+  pub refused-makes : {why : Refusal} → pairOutcome f t ≡ Refused why → Makes f t before before (MakerRefused why)
+  refused-makes {why} e = subst⁻¹ (λ o. MakesOn o f t before before (MakerRefused why)) e (refl, refl)
+
+  module _ (fine : FormulaInRange f) (range : TraceInRange t) (a : Activation) (made : IsMade (normalForm f Plain) t a) where
+    -- the sheet has room in its table, and its text in the writer's space
+    pub some-rows : 1 ≤ a .rows
+    some-rows = omega (arith, made .rows, form-normal f Plain fine .some-rows)
+
+    pub most-rows : a .rows ≤ 128
+    most-rows = omega (arith, made .rows, form-normal f Plain fine .most-rows)
+
+    pub most-cycles : a .cycles ≤ 256
+    most-cycles = omega (arith, made .cycles, range .most-cycles)
+
+    module _ (e : pairOutcome f t ≡ Accepted) {b : Bool} (bit : b ≡ bitAt (lineIn (a .lines) (a .rows - 1)) 0) where
+      root : (b ≡ true) ↔ Satisfied f t
+      root = subst⁻¹ (λ x. (x ≡ true) ↔ Satisfied f t) (bit ∙ ap (λ n. bitAt (lineIn (a .lines) (n - 1)) 0) (made .rows)) (made-root f t fine a (range .some-cycles) made)
+
+      pub sheet-makes : b ≡ true → {after : List ℕ} {answer : MakerAnswer} → answer ≡ answerOf (writtenAnswer (writtenSheet a) before) → after ≡ overlaid (writtenSheet a) before → Makes f t before after answer
+      sheet-makes y {after} {answer} p q = subst⁻¹ (λ o. MakesOn o f t before after answer) e (sheet (root .0 y) a made p q)
+
+      pub none-makes : b ≡ false → Makes f t before before None
+      none-makes n = subst⁻¹ (λ o. MakesOn o f t before before None) e (none (λ x. on-and-off (root .1 x) n) refl refl)
