@@ -87,27 +87,45 @@ unfolding bitsOf bitsWithin
 prefix-bits-end n w t k i h = ap (λ b. b && rowBit (prefix n w) (toEnd n w) (bitsWithin (cyclesBelow n) (prefix n w) (toEnd n w) t k) (t k) i) (le-ltb i n h)
 
 module _ (g : NormalForm) (t : Trace) (ok : InNormalForm g) where
-  -- ALL ROWS FILLED, EACH LINE TELLS WHERE ITS ROW IS TRUE
-  pub filled-tells :
-      (ending : Ending) → LoopBelow (t .cycles) ending → (lines : List Line) → FilledTo (t .cycles) ending (signalAt t) (tableOf (g .places)) (suc (g .rows)) (g .rows) lines
-      → (k : ℕ) → k < g .rows → Tells (t .cycles) (lineIn lines k) (TrueIn g t ending (suc k))
-  filled-tells Open below lines filled k h =
+  -- bits that a pass finds for each row, and that are on where the row is true
+  pub record ToldBy (ending : Ending) (bits : ℕ → ℕ → Bool) : Type 0 where
+    pub found : Found (t .cycles) ending (signalAt t) (tableOf (g .places)) (suc (g .rows)) bits
+    pub told : (k : ℕ) → k < suc (g .rows) → (c : ℕ) → c < t .cycles → TrueIn g t ending k c ↔ On (bits k c)
+
+  pub told-bits : (ending : Ending) → LoopBelow (t .cycles) ending → (bits : ℕ → ℕ → Bool) × ToldBy ending bits
+  told-bits Open below =
       let n : ℕ = t .cycles in
       let w : InfiniteTrace = signalAt t in
       let p : Table = tableOf (g .places) in
       let m : ℕ = suc (g .rows) in
       let ordered : Ordered m p = form-ordered g ok in
       let bits : ℕ → ℕ → Bool = bitsOf (cyclesBelow n) (prefix n w) (toEnd n w) p in
-      let computed = bits-computed (cyclesBelow n) (prefix n w) (toEnd n w) p m ordered in
-      let found : Found n Open w p m bits = λ j l c b. computed j l c ∙ ap (λ x. x && rowBit (prefix n w) (toEnd n w) bits (p j) c) (lt-ltb c n b) ∙ row-prefix n w bits (prefix-bits-end n w p) (p j) (form-positive g ok j l) c b in
-      (bits (suc k), filled .shown bits found k h, λ c b. let e = prefix-truth n w p m ordered (form-positive g ok) bits computed classical (suc k) (omega arith) c in (λ x. e .0 (b, x), λ x. e .1 x .1))
-  filled-tells (Loop l) below lines filled k h =
+      let computed = bits-computed (cyclesBelow n) (prefix n w) (toEnd n w) p m ordered in (
+        bits,
+        record {
+          found = λ j l c b. computed j l c ∙ ap (λ x. x && rowBit (prefix n w) (toEnd n w) bits (p j) c) (lt-ltb c n b) ∙ row-prefix n w bits (prefix-bits-end n w p) (p j) (form-positive g ok j l) c b;
+          told = λ k h c b. let e = prefix-truth n w p m ordered (form-positive g ok) bits computed classical k h c in (λ x. e .0 (b, x), λ x. e .1 x .1);
+        },
+      )
+  told-bits (Loop l) below =
       let n : ℕ = t .cycles in
       let w : InfiniteTrace = signalAt t in
       let p : Table = tableOf (g .places) in
       let m : ℕ = suc (g .rows) in
       let ordered : Ordered m p = form-ordered g ok in
       let bits : ℕ → ℕ → Bool = bitsOf everyCycle (lasso n l below w) (twoRounds n l below) p in
-      let computed = lasso-bits-computed n l below w p m ordered in
-      let found : Found n (Loop l) w p m bits = λ j i c b. computed j i c b ∙ row-lasso n l below w bits (p j) c b in
-      (bits (suc k), filled .shown bits found k h, λ c b. subst (λ i. RowTrue classical (lasso n l below w) p (suc k) c ↔ On (bits (suc k) i)) (position-first n l c b) (lasso-truth n l below w p m ordered bits computed classical (suc k) (omega arith) c))
+      let computed = lasso-bits-computed n l below w p m ordered in (
+        bits,
+        record {
+          found = λ j i c b. computed j i c b ∙ row-lasso n l below w bits (p j) c b;
+          told = λ k h c b. subst (λ i. RowTrue classical (lasso n l below w) p k c ↔ On (bits k i)) (position-first n l c b) (lasso-truth n l below w p m ordered bits computed classical k h c);
+        },
+      )
+
+  -- ALL ROWS FILLED, EACH LINE TELLS WHERE ITS ROW IS TRUE
+  pub filled-tells :
+      (ending : Ending) → LoopBelow (t .cycles) ending → (lines : List Line) → FilledTo (t .cycles) ending (signalAt t) (tableOf (g .places)) (suc (g .rows)) (g .rows) lines
+      → (k : ℕ) → k < g .rows → Tells (t .cycles) (lineIn lines k) (TrueIn g t ending (suc k))
+  filled-tells ending below lines filled k h =
+      let x = told-bits ending below in
+      (x .0 (suc k), filled .shown (x .0) (x .1 .found) k h, x .1 .told (suc k) (omega arith))
