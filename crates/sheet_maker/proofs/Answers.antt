@@ -27,7 +27,7 @@ use Rattle.sheet_maker.specs.declared.MakerAnswer.{MakerAnswer}
 use Rattle.sheet_maker.specs.declared.MakerAnswer.the-variants.{Written, None, Refused as MakerRefused}
 use Rattle.sheet_maker.specs.Made.{Satisfied, IsMade}
 use Rattle.sheet_maker.specs.Answer.{answerOf, Answers, Answers.sheet, Answers.none, MakesOn, Makes}
-use Rattle.sheet_maker.proofs.Sheets.{made-root}
+use Rattle.sheet_maker.proofs.Sheets.{made-root, made-unique}
 
 module _ (f : Formula) (t : Trace) (before : List ℕ) where
   pub refused-makes : {why : Refusal} → pairOutcome f t ≡ Refused why → Makes f t before before (MakerRefused why)
@@ -53,3 +53,20 @@ module _ (f : Formula) (t : Trace) (before : List ℕ) where
 
       pub none-makes : b ≡ false → Makes f t before before None
       none-makes n = subst⁻¹ (λ o. MakesOn o f t before before None) e (none (λ x. on-and-off (root .1 x) n) refl refl)
+
+-- THE CONTRACT FIXES ANSWER AND BYTES
+module _ (f : Formula) (t : Trace) (fine : FormulaInRange f) (before : List ℕ) (after other : List ℕ) (answer reply : MakerAnswer) where
+  answers-once : Answers f t before after answer → Answers f t before other reply → (answer ≡ reply) × (after ≡ other)
+  answers-once (sheet s a made p q) (sheet r b again u w) =
+      let e : writtenSheet a ≡ writtenSheet b = made-unique (normalForm f Plain) t a b (form-normal f Plain fine .most-rows) made again in
+      (p ∙ ap (λ x. answerOf (writtenAnswer x before)) e ∙ sym u, q ∙ ap (λ x. overlaid x before) e ∙ sym w)
+  answers-once (sheet s a made p q) (none r u w) = absurd (r s)
+  answers-once (none s p q) (sheet r b again u w) = absurd (s r)
+  answers-once (none s p q) (none r u w) = (p ∙ sym u, q ∙ sym w)
+
+  makes-on : (o : Outcome) → MakesOn o f t before after answer → MakesOn o f t before other reply → (answer ≡ reply) × (after ≡ other)
+  makes-on Accepted x y = answers-once x y
+  makes-on (Refused why) x y = (x .0 ∙ sym (y .0), x .1 ∙ sym (y .1))
+
+  pub makes-once : Makes f t before after answer → Makes f t before other reply → (answer ≡ reply) × (after ≡ other)
+  makes-once x y = makes-on (pairOutcome f t) x y

@@ -13,6 +13,7 @@ ghost use Rattle.take_file.specs.Valid.{InRange as TraceInRange};
 ghost use Rattle.sheet_file.specs.Written.{writtenSheet};
 ghost use Rattle.normal_form.specs.Numbering.{normalForm};
 ghost use Rattle.normal_form.specs.declared.sign.Sign.the-variants.{Plain};
+ghost use Rattle.judging.specs.Refusals.{pairOutcome};
 ghost use Rattle.writing.specs.Answer.{writtenAnswer};
 ghost use Rattle.writing.specs.Lent.{overlaid};
 ghost use Rattle.sheet_maker.specs.Made.{IsMade};
@@ -61,9 +62,11 @@ fn write_sheet(sheet: Activation, buf: &mut [u8]) -> MakerAnswer
     }
 }
 
-// SERVICE: the sheet file of the formula's normal form over the trace, if the root is true at the first cycle.
+// SERVICE: the sheet file of the formula's normal form over the trace, if the root is true at the first cycle. Tables that are not
+// refused are in range, as the theorems about sheets ask.
 pub fn make_sheet(formula: Formula, trace: Trace, buf: &mut [u8]) -> MakerAnswer
     ensures { λ r. ⌜ Makes formula trace (now (buf .entry)) (now (buf .exit)) r ⌝ }
+    ensures { λ r. ⌜ (pairOutcome formula trace ≡ Outcome.Accepted → FormulaInRange formula × TraceInRange trace) ⌝ }
 {
     let outcome = judging::check_pair(formula, trace);
     match outcome {

@@ -19,13 +19,13 @@ write-sheet-requires : tie.Need-write-sheet-requires
 write-sheet-requires c κs = let i = c .before .before .before .before .before .before .before .before .before .check-pair .ensures .1 (c .before .before .before .before .before .before .before .enum-told .given .1) in (most-rows (c .before .before .before .before .before .before .before .before .before .before .before .args .formula) (c .before .before .before .before .before .before .before .before .before .before .before .args .trace) (c .before .before .before .before .before .before .before .before .before .before .before .args .buf .now) (i .0) (i .1) _ (c .before .before .before .before .before .before .truth-sheet .ensures), most-cycles (c .before .before .before .before .before .before .before .before .before .before .before .args .formula) (c .before .before .before .before .before .before .before .before .before .before .before .args .trace) (c .before .before .before .before .before .before .before .before .before .before .before .args .buf .now) (i .0) (i .1) _ (c .before .before .before .before .before .before .truth-sheet .ensures))
 
 returns : tie.Need-returns
-returns c = refused-makes (c .before .before .before .before .before .args .formula) (c .before .before .before .before .before .args .trace) (c .before .before .before .before .before .args .buf .now) (know (c .before .before .before .check-pair .ensures .0) (c .before .outcome .given .1))
+returns c = (refused-makes (c .before .before .before .before .before .args .formula) (c .before .before .before .before .before .args .trace) (c .before .before .before .before .before .args .buf .now) (know (c .before .before .before .check-pair .ensures .0) (c .before .outcome .given .1)), λ e. c .before .before .before .check-pair .ensures .1 (c .before .before .before .check-pair .ensures .0 ∙ e))
 
 returns-2 : tie.Need-returns-2
-returns-2 c = let i = c .before .before .before .before .before .before .before .before .before .before .before .before .check-pair .ensures .1 (c .before .before .before .before .before .before .before .before .before .before .enum-told .given .1) in sheet-makes (c .before .before .before .before .before .before .before .before .before .before .before .before .before .before .args .formula) (c .before .before .before .before .before .before .before .before .before .before .before .before .before .before .args .trace) (c .before .before .before .before .before .before .before .before .before .before .before .before .before .before .args .buf .now) (i .0) (i .1) (c .before .before .before .before .before .before .before .before .before .truth-sheet .result) (c .before .before .before .before .before .before .before .before .before .truth-sheet .ensures) (know (c .before .before .before .before .before .before .before .before .before .before .before .before .check-pair .ensures .0) (c .before .before .before .before .before .before .before .before .before .before .enum-told .given .1)) (c .before .before .before .before .before .bit .ensures) (c .before .before .before .before .if1 .taken) (c .before .before .write-sheet .ensures .0) (c .before .before .write-sheet .ensures .1)
+returns-2 c = let i = c .before .before .before .before .before .before .before .before .before .before .before .before .check-pair .ensures .1 (c .before .before .before .before .before .before .before .before .before .before .enum-told .given .1) in (sheet-makes (c .before .before .before .before .before .before .before .before .before .before .before .before .before .before .args .formula) (c .before .before .before .before .before .before .before .before .before .before .before .before .before .before .args .trace) (c .before .before .before .before .before .before .before .before .before .before .before .before .before .before .args .buf .now) (i .0) (i .1) (c .before .before .before .before .before .before .before .before .before .truth-sheet .result) (c .before .before .before .before .before .before .before .before .before .truth-sheet .ensures) (know (c .before .before .before .before .before .before .before .before .before .before .before .before .check-pair .ensures .0) (c .before .before .before .before .before .before .before .before .before .before .enum-told .given .1)) (c .before .before .before .before .before .bit .ensures) (c .before .before .before .before .if1 .taken) (c .before .before .write-sheet .ensures .0) (c .before .before .write-sheet .ensures .1), λ e. c .before .before .before .before .before .before .before .before .before .before .before .before .check-pair .ensures .1 (c .before .before .before .before .before .before .before .before .before .before .before .before .check-pair .ensures .0 ∙ e))
 
 returns-3 : tie.Need-returns-3
-returns-3 c = let i = c .before .before .before .before .before .before .before .before .check-pair .ensures .1 (c .before .before .before .before .before .before .enum-told .given .1) in none-makes (c .before .before .before .before .before .before .before .before .before .before .args .formula) (c .before .before .before .before .before .before .before .before .before .before .args .trace) (c .before .before .before .before .before .before .before .before .before .before .args .buf .now) (i .0) (i .1) (c .before .before .before .before .before .truth-sheet .result) (c .before .before .before .before .before .truth-sheet .ensures) (know (c .before .before .before .before .before .before .before .before .check-pair .ensures .0) (c .before .before .before .before .before .before .enum-told .given .1)) (c .before .bit .ensures) (c .if1 .left)
+returns-3 c = let i = c .before .before .before .before .before .before .before .before .check-pair .ensures .1 (c .before .before .before .before .before .before .enum-told .given .1) in (none-makes (c .before .before .before .before .before .before .before .before .before .before .args .formula) (c .before .before .before .before .before .before .before .before .before .before .args .trace) (c .before .before .before .before .before .before .before .before .before .before .args .buf .now) (i .0) (i .1) (c .before .before .before .before .before .truth-sheet .result) (c .before .before .before .before .before .truth-sheet .ensures) (know (c .before .before .before .before .before .before .before .before .check-pair .ensures .0) (c .before .before .before .before .before .before .enum-told .given .1)) (c .before .bit .ensures) (c .if1 .left), λ e. c .before .before .before .before .before .before .before .before .check-pair .ensures .1 (c .before .before .before .before .before .before .before .before .check-pair .ensures .0 ∙ e))
 
 pub make-sheet-spec : {M : Type 1} → statement M
 make-sheet-spec =
