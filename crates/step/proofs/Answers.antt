@@ -15,24 +15,24 @@ use Rattle.rule_file.specs.Written.{writtenRule}
 use Rattle.normal_form.specs.declared.sign.Sign.the-variants.{Plain}
 use Rattle.normal_form.specs.Numbering.{normalForm}
 use Rattle.writing.specs.declared.answer.Bytes.the-variants.{Count, Refused as BytesRefused}
-use Rattle.step.specs.Step.{formOutcome, formOutput, stepOutcome, stepOutput, stepAnswer, stepLeft}
+use Rattle.step.specs.Step.{formOutcome, formOutput, rowsIn, stepOutcome, stepOutput, stepAnswer, stepLeft}
 
 module _ (f : Formula) (p a s buf : List ℕ) where
   -- refused: no byte changes
   module _ {r : Refusal} (e : stepOutcome f p a s buf ≡ Refused r) where
     pub refused-both : (BytesRefused r ≡ stepAnswer f p a s buf) × (buf ≡ stepLeft f p a s buf)
     refused-both = (
-      sym (ap (λ o. onOutcome o BytesRefused (Count (3 * normalForm f Plain .rows))) e),
-      sym (ap (λ o. onOutcome o (λ r. buf) (stepOutput f p a s buf ++ drop (3 * normalForm f Plain .rows) buf)) e),
+      sym (ap (λ o. onOutcome o BytesRefused (Count (3 * rowsIn f))) e),
+      sym (ap (λ o. onOutcome o (λ r. buf) (stepOutput f p a s ++ drop (3 * rowsIn f) buf)) e),
     )
 
   -- answered
   module _ (e : stepOutcome f p a s buf ≡ Accepted) where
-    pub answered-answer : stepAnswer f p a s buf ≡ Count (3 * normalForm f Plain .rows)
-    answered-answer = ap (λ o. onOutcome o BytesRefused (Count (3 * normalForm f Plain .rows))) e
+    pub answered-answer : stepAnswer f p a s buf ≡ Count (3 * rowsIn f)
+    answered-answer = ap (λ o. onOutcome o BytesRefused (Count (3 * rowsIn f))) e
 
-    pub answered-left : stepLeft f p a s buf ≡ stepOutput f p a s buf ++ drop (3 * normalForm f Plain .rows) buf
-    answered-left = ap (λ o. onOutcome o (λ r. buf) (stepOutput f p a s buf ++ drop (3 * normalForm f Plain .rows) buf)) e
+    pub answered-left : stepLeft f p a s buf ≡ stepOutput f p a s ++ drop (3 * rowsIn f) buf
+    answered-left = ap (λ o. onOutcome o (λ r. buf) (stepOutput f p a s ++ drop (3 * rowsIn f) buf)) e
 
   -- the rule's own refusal
   pub own-refused : {o : Outcome} {r : Refusal} → o ≡ outcomeOf 1 (parseRule (writtenRule f)) → o ≡ Refused r → stepOutcome f p a s buf ≡ Refused r

@@ -21,8 +21,8 @@ use Rattle.normal_form.proofs.FormTables.{form-ordered, form-positive, form-sig
 use Rattle.normal_form.proofs.Demand.{satisfied-alike}
 use Rattle.monitors.specs.Run.{Activators}
 use Rattle.monitors.proofs.Soundness.{outputFrom, HandedOn, Unfailing, active-row-true}
-use Rattle.step.specs.Step.{digitAt}
-use Rattle.step.specs.Calls.{Call, InOrder, rowsIn, handed, answered, left, TakeOf, StepsPass}
+use Rattle.step.specs.Step.{digitAt, rowsIn}
+use Rattle.step.specs.Calls.{Call, InOrder, handed, answered, left, TakeOf, StepsPass}
 use Rattle.step.proofs.Order.{reached, later, first-unique, at-first, at-next, order-unique, listed, listed-in-order}
 use Rattle.step.proofs.Steps.{digit-one, digit-not-one, answered-range, left-failed, left-accept, handed-on, handed-back, handed-fresh}
 

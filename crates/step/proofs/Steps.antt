@@ -26,8 +26,8 @@ use Rattle.normal_form.specs.declared.sign.Sign.the-variants.{Plain}
 use Rattle.normal_form.specs.Numbering.{normalForm}
 use Rattle.writing.specs.declared.answer.Bytes.{Bytes}
 use Rattle.writing.specs.declared.answer.Bytes.the-variants.{Count, Refused as BytesRefused}
-use Rattle.step.specs.Step.{digitAt, digitOf, rowOutput, formOutcome, formOutput, stepOutcome, stepAnswer}
-use Rattle.step.specs.Calls.{Call, onAnswer, rowsIn, handed, answered, left}
+use Rattle.step.specs.Step.{digitAt, digitOf, rowOutput, formOutcome, formOutput, rowsIn, stepOutcome, stepAnswer}
+use Rattle.step.specs.Calls.{Call, onAnswer, handed, answered, left}
 use Rattle.step.proofs.Outputs.{failedDigit, acceptDigit, pendingDigit}
 use Rattle.step.proofs.Answers.{answered-answer, answered-left}
 

@@ -8,11 +8,9 @@ use Rattle.tables.specs.declared.row.Formula.{Formula}
 use Rattle.text.specs.Search.{part}
 use Rattle.meaning.specs.Reading.{Reading, Some}
 use Rattle.meaning.specs.Trace.{InfiniteTrace}
-use Rattle.normal_form.specs.declared.sign.Sign.the-variants.{Plain}
-use Rattle.normal_form.specs.Numbering.{normalForm}
 use Rattle.writing.specs.declared.answer.Bytes.{Bytes}
 use Rattle.writing.specs.declared.answer.Bytes.the-variants.{Count, Refused}
-use Rattle.step.specs.Step.{digitAt, stepAnswer, stepLeft}
+use Rattle.step.specs.Step.{digitAt, rowsIn, stepAnswer, stepLeft}
 
 -- "activators, signals and lent buffer may be any in each call"
 pub record Call : Type 0 where
@@ -31,10 +29,6 @@ pub record InOrder (answered : ℕ → Bool) (at : ℕ → ℕ) : Type 0 where
   pub each : (c : ℕ) → answered (at c) ≡ true
   pub rises : (c : ℕ) → at c < at (suc c)
   pub between : (c j : ℕ) → at c < j → j < at (suc c) → answered j ≡ false
-
--- how many rows a rule's normal form has
-abbrev pub rowsIn : Formula → ℕ
-rowsIn f = normalForm f Plain .rows
 
 -- "endless lists of step calls with one rule"
 module _ (f : Formula) (calls : ℕ → Call) where

@@ -57,18 +57,22 @@ module _ (g : NormalForm) (pendings activators signals : List ℕ) where
 
 -- ---- the service
 
+-- how many rows a rule's normal form has
+abbrev pub rowsIn : Formula → ℕ
+rowsIn f = normalForm f Plain .rows
+
+abbrev pub stepOutput : Formula → List ℕ → List ℕ → List ℕ → List ℕ
+stepOutput f pendings activators signals = formOutput (normalForm f Plain) pendings activators signals
+
 module _ (f : Formula) (pendings activators signals buf : List ℕ) where
   -- "After the rule's own refusals": "A table handed to a service is checked as if written out as its file"
   abbrev pub stepOutcome : Outcome
   stepOutcome = andThen (outcomeOf 1 (parseRule (writtenRule f))) (formOutcome (normalForm f Plain) pendings activators signals (length buf))
 
-  abbrev pub stepOutput : List ℕ
-  stepOutput = formOutput (normalForm f Plain) pendings activators signals
-
   -- the first refusal, or how many bytes were written: three for each row
   abbrev pub stepAnswer : Bytes
-  stepAnswer = onOutcome stepOutcome Refused (Count (3 * normalForm f Plain .rows))
+  stepAnswer = onOutcome stepOutcome Refused (Count (3 * rowsIn f))
 
   -- a refused call leaves every byte; "an output fills its own length and the bytes behind it stay" (demand 1)
   abbrev pub stepLeft : List ℕ
-  stepLeft = onOutcome stepOutcome (λ r. buf) (stepOutput ++ drop (3 * normalForm f Plain .rows) buf)
+  stepLeft = onOutcome stepOutcome (λ r. buf) (stepOutput f pendings activators signals ++ drop (3 * rowsIn f) buf)
