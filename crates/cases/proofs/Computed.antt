@@ -8,6 +8,7 @@ use lib.Dec.{eqb}
 use Rattle.tables.specs.declared.refusal.Outcome.{Outcome}
 use Rattle.tables.specs.declared.refusal.Outcome.the-variants.{Accepted}
 use Rattle.tables.specs.declared.row.Formula.{Formula}
+use Rattle.tables.specs.declared.trace.Activation.{Activation}
 use Rattle.tables.specs.declared.trace.Ending.{Ending}
 use Rattle.tables.specs.declared.trace.Trace.{Trace}
 use Rattle.text.specs.Result.{Result}
@@ -16,6 +17,8 @@ use Rattle.rule_file.specs.Rule.{parseRule}
 use Rattle.rule_file.proofs.Rules.{rule-read}
 use Rattle.take_file.specs.Take.{parseTake}
 use Rattle.take_file.proofs.Takes.{take-read}
+use Rattle.sheet_file.specs.Sheet.{parseSheet}
+use Rattle.sheet_file.proofs.Sheets.{sheet-read}
 use Rattle.normal_form.specs.declared.sign.Sign.the-variants.{Plain}
 use Rattle.normal_form.specs.Numbering.{normalForm}
 use Rattle.judging.specs.declared.verdict.Verdict.{Verdict}
@@ -26,8 +29,10 @@ use Rattle.judging.proofs.ByBits.{computedVerdict, verdict-computed, answered}
 use Rattle.judge_text.specs.Text.{verdictText}
 use Rattle.judge_text.specs.Answer.{IsPairText, IsText}
 use Rattle.judge_text.proofs.Answers.{judged-text}
+use Rattle.sheet_check.specs.declared.finding.Finding.{Finding}
+use Rattle.cases.proofs.ComputedSheets.{ChecksTo, check-computed, MakesTo, make-computed}
 use Rattle.cases.specs.Case.{File, fileBytes, Case, Answered, Says, Each, Each.none, Each.first}
-use Rattle.cases.specs.Case.Case.{normal-form, bound, looped, opened, prints}
+use Rattle.cases.specs.Case.Case.{normal-form, bound, looped, opened, prints, makes, checks}
 
 -- both files are read, their signals agree, the ending is what the service needs, and the bits give the verdict
 abbrev Judges : (Ending → Outcome) → Verdict → Result Formula → Result Trace → Type 0
@@ -42,19 +47,28 @@ PrintsText text (accepted f) (refused e n) = ⊥
 PrintsText text (refused e n) q = ⊥
 
 -- a case on the normal form is computed itself
+-- of a sheet: the three files are read, and their tables are so
+abbrev pub OnThree : Result Formula → Result Trace → Result Activation → (Formula → Trace → Activation → Type 0) → Type 0
+OnThree (accepted f) (accepted t) (accepted a) P = P f t a
+OnThree (accepted f) (accepted t) (refused e n) P = ⊥
+OnThree (accepted f) (refused e n) r P = ⊥
+OnThree (refused e n) q r P = ⊥
+
 abbrev pub Computed : Case → Type 0
 Computed (normal-form rule s out) = Says (normal-form rule s out)
 Computed (bound rule n) = Says (bound rule n)
 Computed (looped rule take v) = Judges needsLoop v (parseRule (fileBytes rule)) (parseTake (fileBytes take))
 Computed (opened rule take v) = Judges needsNoLoop v (parseRule (fileBytes rule)) (parseTake (fileBytes take))
 Computed (prints rule take text) = PrintsText (fileBytes text) (parseRule (fileBytes rule)) (parseTake (fileBytes take))
+Computed (makes rule take sheet) = OnThree (parseRule (fileBytes rule)) (parseTake (fileBytes take)) (parseSheet (fileBytes sheet)) MakesTo
+Computed (checks rule take sheet x) = OnThree (parseRule (fileBytes rule)) (parseTake (fileBytes take)) (parseSheet (fileBytes sheet)) (λ f t a. ChecksTo f t a x)
 
 -- the checks of a service that needs such an ending
-abbrev checks : (Ending → Outcome) → Formula → Trace → Outcome
-checks needs f t = andThen (pairOutcome f t) (needs (t .ending))
+abbrev withEnding : (Ending → Outcome) → Formula → Trace → Outcome
+withEnding needs f t = andThen (pairOutcome f t) (needs (t .ending))
 
 module _ (rule take : File) where
-  judged : (needs : Ending → Outcome) (v : Verdict) (p : Result Formula) (q : Result Trace) → parseRule (fileBytes rule) ≡ p → parseTake (fileBytes take) ≡ q → Judges needs v p q → Answered (checks needs) rule take (Judged v)
+  judged : (needs : Ending → Outcome) (v : Verdict) (p : Result Formula) (q : Result Trace) → parseRule (fileBytes rule) ≡ p → parseTake (fileBytes take) ≡ q → Judges needs v p q → Answered (withEnding needs) rule take (Judged v)
   judged needs v (accepted f) (accepted t) fr tr (same, e, c) = rw (fr, tr, ← c) (answered f t (rule-read (fileBytes rule) f fr .1) (take-read (fileBytes take) t tr .1) same e)
   judged needs v (accepted f) (refused e n) fr tr x = absurd x
   judged needs v (refused e n) q fr tr x = absurd x
@@ -64,12 +78,29 @@ module _ (rule take : File) where
   printed text (accepted f) (refused e n) fr tr x = absurd x
   printed text (refused e n) q fr tr x = absurd x
 
+module _ (rule take sheet : File) where
+  made : (p : Result Formula) (q : Result Trace) (r : Result Activation) → parseRule (fileBytes rule) ≡ p → parseTake (fileBytes take) ≡ q → parseSheet (fileBytes sheet) ≡ r → OnThree p q r MakesTo → Says (makes rule take sheet)
+  made (accepted f) (accepted t) (accepted a) fr tr sr c =
+      let written = sheet-read (fileBytes sheet) a sr in
+      rw (fr, tr) (λ before. rw (written .0) (make-computed f t a (rule-read (fileBytes rule) f fr .1) (take-read (fileBytes take) t tr .1) (written .1) c before))
+  made (accepted f) (accepted t) (refused e n) fr tr sr c = absurd c
+  made (accepted f) (refused e n) r fr tr sr c = absurd c
+  made (refused e n) q r fr tr sr c = absurd c
+
+  checked : (p : Result Formula) (q : Result Trace) (r : Result Activation) (x : Finding) → parseRule (fileBytes rule) ≡ p → parseTake (fileBytes take) ≡ q → parseSheet (fileBytes sheet) ≡ r → OnThree p q r (λ f t a. ChecksTo f t a x) → Says (checks rule take sheet x)
+  checked (accepted f) (accepted t) (accepted a) x fr tr sr c = rw (fr, tr, sr) (check-computed f t a (rule-read (fileBytes rule) f fr .1) (take-read (fileBytes take) t tr .1) (sheet-read (fileBytes sheet) a sr .1) x c)
+  checked (accepted f) (accepted t) (refused e n) x fr tr sr c = absurd c
+  checked (accepted f) (refused e n) r x fr tr sr c = absurd c
+  checked (refused e n) q r x fr tr sr c = absurd c
+
 pub computed-says : (c : Case) → Computed c → Says c
 computed-says (normal-form rule s out) x = x
 computed-says (bound rule n) x = x
 computed-says (looped rule take v) x = judged rule take needsLoop v _ _ refl refl x
 computed-says (opened rule take v) x = judged rule take needsNoLoop v _ _ refl refl x
 computed-says (prints rule take text) x = printed rule take (fileBytes text) _ _ refl refl x
+computed-says (makes rule take sheet) x = made rule take sheet _ _ _ refl refl refl x
+computed-says (checks rule take sheet y) x = checked rule take sheet _ _ _ y refl refl refl x
 
 pub all-say : (cs : List Case) → Each Computed cs → Each Says cs
 all-say [] none = none

@@ -1,2 +1,3 @@
+pub mod ComputedSheets
 pub mod Computed
 pub mod Cases

@@ -6,11 +6,13 @@ use mathlib.Core.List.{List, [], _∷_, _++_}
 use Rattle.tables.specs.Bytes.{bytes}
 use Rattle.tables.specs.declared.refusal.Outcome.{Outcome}
 use Rattle.tables.specs.declared.row.Formula.{Formula}
+use Rattle.tables.specs.declared.trace.Activation.{Activation}
 use Rattle.tables.specs.declared.trace.Trace.{Trace}
 use Rattle.text.specs.Result.{Result}
 use Rattle.text.specs.Result.Result.{accepted, refused}
 use Rattle.rule_file.specs.Rule.{parseRule}
 use Rattle.take_file.specs.Take.{parseTake}
+use Rattle.sheet_file.specs.Sheet.{parseSheet}
 use Rattle.normal_form.specs.declared.sign.Sign.{Sign}
 use Rattle.writing.specs.Answer.{writtenAnswer}
 use Rattle.writing.specs.Lent.{overlaid}
@@ -21,6 +23,10 @@ use Rattle.judging.specs.declared.verdict.Answer.{Answer}
 use Rattle.judging.specs.declared.verdict.Answer.the-variants.{Judged}
 use Rattle.judging.specs.Refusals.{loopedOutcome, openOutcome, Answers}
 use Rattle.judge_text.specs.Answer.{IsText}
+use Rattle.sheet_maker.specs.Answer.{answerOf, Makes}
+use Rattle.sheet_check.specs.declared.finding.Finding.{Finding}
+use Rattle.sheet_check.specs.declared.finding.CheckAnswer.the-variants.{Checked}
+use Rattle.sheet_check.specs.Answer.{checkOutcome, CheckAnswers}
 
 -- a file, by its lines
 abbrev pub File : Type 0
@@ -41,6 +47,10 @@ pub data Case : Type 0 where
   looped opened : File → File → Verdict → Case
   -- the text that `judge` prints
   prints : File → File → File → Case
+  -- the sheet that is made
+  makes : File → File → File → Case
+  -- what a check of a sheet finds
+  checks : File → File → File → Finding → Case
 
 -- accepted, and what was read is so
 abbrev pub AcceptedAs : {A : Type 0} → (A → Type 0) → Result A → Type 0
@@ -54,6 +64,10 @@ OnRule rule P = AcceptedAs P (parseRule (fileBytes rule))
 -- the file is that of a trace, and the trace is so
 abbrev pub OnTake : File → (Trace → Type 0) → Type 0
 OnTake take P = AcceptedAs P (parseTake (fileBytes take))
+
+-- the file is that of an activation table, and the table is so
+abbrev pub OnSheet : File → (Activation → Type 0) → Type 0
+OnSheet sheet P = AcceptedAs P (parseSheet (fileBytes sheet))
 
 -- the service's answer, and what it leaves in the buffer, are those of the output `out`
 abbrev pub Writes : Formula → Sign → List ℕ → Type 0
@@ -70,6 +84,8 @@ Says (bound rule n) = OnRule rule (λ f. boundAnswer f ≡ Count n)
 Says (looped rule take v) = Answered loopedOutcome rule take (Judged v)
 Says (opened rule take v) = Answered openOutcome rule take (Judged v)
 Says (prints rule take text) = IsText (parseRule (fileBytes rule)) (parseTake (fileBytes take)) (fileBytes text)
+Says (makes rule take sheet) = OnRule rule (λ f. OnTake take (λ t. (before : List ℕ) → Makes f t before (overlaid (fileBytes sheet) before) (answerOf (writtenAnswer (fileBytes sheet) before))))
+Says (checks rule take sheet x) = OnRule rule (λ f. OnTake take (λ t. OnSheet sheet (λ a. CheckAnswers (checkOutcome f t a) f t a (Checked x))))
 
 -- every element is so
 pub data Each {A : Type 0} (P : A → Type 0) : List A → Type 0 where

@@ -3,8 +3,9 @@
 use mathlib.Core.List.{List, [], _∷_}
 use Rattle.normal_form.specs.declared.sign.Sign.the-variants.{Plain}
 use Rattle.judging.specs.declared.verdict.Verdict.the-variants.{Holds, Breaks, Kept, Broken, Open}
+use Rattle.sheet_check.specs.declared.finding.Finding.the-variants.{Failed, Starved, Passes}
 use Rattle.cases.specs.Case.{File, Case}
-use Rattle.cases.specs.Case.Case.{normal-form, bound, looped, opened, prints}
+use Rattle.cases.specs.Case.Case.{normal-form, bound, looped, opened, prints, makes, checks}
 
 abbrev pub ruleA : File
 ruleA =
@@ -93,6 +94,16 @@ open-1 = "format=1" ∷ "signals=1" ∷ "cycles=1" ∷ "loop=none" ∷ "c0=1" �
 abbrev pub printedA : File
 printedA = "signals=2" ∷ "rows=5" ∷ "cycles=2" ∷ "loop=0" ∷ "verdict=holds" ∷ []
 
+-- "sheet for A on 10 01, loop 0: z1 to z5 are 01 01 11 11 11"; and with z3=00, with z2=00
+abbrev pub sheetA : File
+sheetA = "format=1" ∷ "rows=5" ∷ "cycles=2" ∷ "z1=01" ∷ "z2=01" ∷ "z3=11" ∷ "z4=11" ∷ "z5=11" ∷ []
+
+abbrev pub sheetA-z3 : File
+sheetA-z3 = "format=1" ∷ "rows=5" ∷ "cycles=2" ∷ "z1=01" ∷ "z2=01" ∷ "z3=00" ∷ "z4=11" ∷ "z5=11" ∷ []
+
+abbrev pub sheetA-z2 : File
+sheetA-z2 = "format=1" ∷ "rows=5" ∷ "cycles=2" ∷ "z1=01" ∷ "z2=00" ∷ "z3=11" ∷ "z4=11" ∷ "z5=11" ∷ []
+
 abbrev pub cases : List Case
 cases =
     -- "Rule A: ..; bound 293. Its normal form, whole (P)"
@@ -117,4 +128,9 @@ cases =
     looped ruleNext loop0-1 Holds ∷
     opened ruleNext open-1 Open ∷
     -- "`judge` .. For A on 10 01, loop 0, it prints in full"
-    prints ruleA loop0-10-01 printedA ∷ []
+    prints ruleA loop0-10-01 printedA ∷
+    -- "P: sheet for A on 10 01, loop 0: z1 to z5 are 01 01 11 11 11. With z3=00: `failed`, row 4, cycle 0. With z2=00: `starved`, row 3."
+    makes ruleA loop0-10-01 sheetA ∷
+    checks ruleA loop0-10-01 sheetA Passes ∷
+    checks ruleA loop0-10-01 sheetA-z3 (Failed 4 0) ∷
+    checks ruleA loop0-10-01 sheetA-z2 (Starved 3) ∷ []

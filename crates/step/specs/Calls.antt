@@ -40,7 +40,7 @@ module _ (f : Formula) (calls : ℕ → Call) where
       let call = calls i in
       onAnswer (stepAnswer f (handed i) (call .activators) (call .signals) (call .buffer))
       (part (2 * rowsIn f) (3 * rowsIn f) (stepLeft f (handed i) (call .activators) (call .signals) (call .buffer)))
-      (handed i)
+      (handed i)  -- a refused call changes none
 
   -- whether call i is answered, and what it leaves in its buffer: the digits of failed, then accept, then pending, each by row
   abbrev pub answered : ℕ → Bool
