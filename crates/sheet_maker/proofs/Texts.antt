@@ -6,7 +6,7 @@ use mathlib.Core.List.{List, [], _∷_, _++_, map-append}
 use native.Mathlib.Numerals.{add-one}
 use native.Mathlib.Omega.{arith}
 use lib.ListN.{length, getD, take}
-use lib.Seq.{take-suc, take-all}
+use lib.Seq.{take-suc, take-all, length-take-le}
 use Rattle.tables.specs.Choice.{pick}
 use Rattle.tables.specs.Bit.{bitAt}
 use Rattle.tables.specs.Place.{tabulate}
@@ -16,6 +16,7 @@ use Rattle.tables.proofs.Places.{length-tabulate, getD-tabulate, take-tabulate}
 use Rattle.text.specs.Written.{decimal, digitsText, writtenLine, writtenBody}
 use Rattle.text.proofs.DigitLines.{text-length}
 use Rattle.sheet_file.specs.Written.{rowsOf}
+use Rattle.writing.specs.Lent.{Wrote}
 use Rattle.writing.proofs.Texts.{places-next, places-all}
 
 module _ (f : ℕ → Bool) (n : ℕ) where
@@ -43,3 +44,7 @@ module _ (a : Activation) (full : length (a .lines) ≡ 128) (few : a .rows ≤ 
 
   pub rows-all : (k : ℕ) → a .rows ≤ k → take k (rowsOf a) ≡ rowsOf a
   rows-all k h = places-all (λ (l : Line). tabulate (min (a .cycles) 256) (bitAt l)) (a .rows) (a .lines) (omega arith) k h
+
+-- the length of a part of a written buffer
+pub part-length : {b t a : List ℕ} {e : ℕ} (n : ℕ) → Wrote b 0 t a e → n ≤ length a → n ≡ length (take n a)
+part-length {b} {t} {a} n w h = sym (length-take-le n a h)
