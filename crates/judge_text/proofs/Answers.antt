@@ -1,7 +1,6 @@
 -- The text of `judge` by its cases. Assumes nothing.
 use Prim.Native.Nat.{ℕ, _≤_}
 use mathlib.Core.Path.{_≡_, refl, sym, ap, subst, subst⁻¹, _∙_}
-use mathlib.Core.Bool.{Bool, true, false}
 use mathlib.Core.List.{List, []}
 use native.Mathlib.Omega.{arith}
 use lib.Dec.{eqb}
@@ -28,7 +27,7 @@ use Rattle.judging.specs.declared.verdict.Verdict.{Verdict}
 use Rattle.judging.specs.Verdict.{VerdictOf}
 use Rattle.tables.proofs.Outcomes.{refused-only}
 use Rattle.judge_text.specs.Text.{verdictText}
-use Rattle.judge_text.specs.Answer.{IsVerdictText, IsPairText, IsText}
+use Rattle.judge_text.specs.Answer.{IsPairText, IsText}
 
 pub below-more : (ending : Ending) (m n : ℕ) → m ≤ n → Below m ending → Below n ending
 below-more Open m n h b = tt

@@ -24,7 +24,7 @@ use Rattle.judging.specs.Refusals.{pairOutcome}
 use Rattle.writing.specs.Answer.{writtenAnswer}
 use Rattle.writing.specs.Lent.{overlaid}
 use Rattle.sheet_maker.specs.declared.MakerAnswer.{MakerAnswer}
-use Rattle.sheet_maker.specs.declared.MakerAnswer.the-variants.{Written, None, Refused as MakerRefused}
+use Rattle.sheet_maker.specs.declared.MakerAnswer.the-variants.{None, Refused as MakerRefused}
 use Rattle.sheet_maker.specs.Made.{Satisfied, IsMade}
 use Rattle.sheet_maker.specs.Answer.{answerOf, Answers, Answers.sheet, Answers.none, MakesOn, Makes}
 use Rattle.sheet_maker.proofs.Sheets.{made-root, made-unique}

@@ -4,7 +4,7 @@
 -- is one and answer `none` otherwise". Assumes nothing.
 use Prim.Native.Nat.{ℕ, suc, _-_, _≤_, _<_}
 use mathlib.Core.Path.{_≡_, refl, sym, ap, subst, subst⁻¹, _∙_}
-use mathlib.Core.Logic.{_↔_, Iff·symm}
+use mathlib.Core.Logic.{_↔_}
 use mathlib.Core.Bool.{Bool, true}
 use mathlib.Core.List.{List, []}
 use native.Mathlib.Omega.{arith}
@@ -32,7 +32,7 @@ use Rattle.normal_form.specs.Numbering.{normalForm}
 use Rattle.normal_form.proofs.Ranges.{form-normal}
 use Rattle.normal_form.proofs.FormTables.{form-operands, form-positive}
 use Rattle.normal_form.proofs.Demand.{satisfied-alike}
-use Rattle.truth.specs.Truth.{lineIn, TrueIn, TrueAt}
+use Rattle.truth.specs.Truth.{TrueIn}
 use Rattle.truth.proofs.Filling.{told-bits}
 use Rattle.judging.specs.Verdict.{IsKept}
 use Rattle.judging.specs.Refusals.{pairOutcome}

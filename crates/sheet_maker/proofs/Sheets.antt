@@ -5,7 +5,7 @@ use mathlib.Core.Logic.{_↔_, Iff·trans}
 use mathlib.Core.Bool.{Bool, true, false}
 use mathlib.Core.List.{List, [], map}
 use native.Mathlib.Omega.{arith}
-use lib.ListN.{length, getD, take}
+use lib.ListN.{length, take}
 use lib.Seq.{length-take-le, getD-take}
 use Rattle.tables.specs.Bit.{bitAt}
 use Rattle.tables.specs.Place.{tabulate}
@@ -18,7 +18,6 @@ use Rattle.tables.specs.declared.trace.Ending.the-variants.{Open, Loop}
 use Rattle.tables.specs.declared.trace.Line.{Line}
 use Rattle.tables.specs.declared.trace.Trace.{Trace}
 use Rattle.rule_file.specs.Valid.{InRange as FormulaInRange}
-use Rattle.take_file.specs.Valid.{InRange as TraceInRange}
 use Rattle.sheet_file.specs.Written.{rowsOf, writtenSheet}
 use Rattle.normal_form.specs.declared.sign.Sign.the-variants.{Plain}
 use Rattle.normal_form.specs.Form.{InNormalForm}

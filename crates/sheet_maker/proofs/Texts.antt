@@ -14,7 +14,6 @@ use Rattle.tables.specs.declared.trace.Activation.{Activation}
 use Rattle.tables.specs.declared.trace.Line.{Line}
 use Rattle.tables.proofs.Places.{length-tabulate, getD-tabulate, take-tabulate}
 use Rattle.text.specs.Written.{decimal, digitsText, writtenLine, writtenBody}
-use Rattle.text.proofs.DigitLines.{text-length}
 use Rattle.sheet_file.specs.Written.{rowsOf}
 use Rattle.writing.specs.Lent.{Wrote}
 use Rattle.writing.proofs.Texts.{places-next, places-all}
@@ -30,9 +29,6 @@ module _ (f : ℕ → Bool) (n : ℕ) where
 
   pub digits-next : digitsText (tabulate n f) ++ (pick (f n) 49 48 ∷ []) ≡ digitsText (tabulate (n + 1) f)
   digits-next = sym (ap (λ m. digitsText (tabulate m f)) (add-one n) ∙ ap digitsText tabulate-more ∙ map-append (λ b. pick b 49 48) (tabulate n f) (f n ∷ []))
-
-  pub digits-length : length (digitsText (tabulate n f)) ≡ n
-  digits-length = text-length (tabulate n f) ∙ length-tabulate n 0 f
 
 module _ (a : Activation) (full : length (a .lines) ≡ 128) (few : a .rows ≤ 128) where
   pub rows-next : (k : ℕ) (d : Line) → a .cycles ≤ 256 → k < a .rows

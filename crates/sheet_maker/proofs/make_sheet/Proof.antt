@@ -1,4 +1,4 @@
-use mathlib.Core.Path.{_≡_, sym, ap, _∙_}
+use mathlib.Core.Path.{_∙_}
 use native.Mathlib.Omega.{arith}
 use Rattle.text.proofs.Searching.{know}
 use Rattle.sheet_maker.proofs.Answers.{refused-makes, some-rows, most-rows, most-cycles, sheet-makes, none-makes}

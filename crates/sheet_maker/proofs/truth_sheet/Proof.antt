@@ -1,5 +1,5 @@
-use mathlib.Core.Path.{_≡_, refl, sym, ap, subst, _∙_}
-use lib.ListN.{length, length-map}
+use mathlib.Core.Path.{refl, sym, ap, subst, _∙_}
+use lib.ListN.{length-map}
 use Rattle.tables.specs.declared.row.NormalForm.{NormalForm}
 use Rattle.normal_form.specs.declared.sign.Sign.the-variants.{Plain}
 use Rattle.normal_form.proofs.Ranges.{form-normal}

@@ -1,4 +1,4 @@
-use mathlib.Core.Path.{_≡_, sym, ap, _∙_}
+use mathlib.Core.Path.{ap, _∙_}
 use Rattle.text.proofs.Searching.{know}
 use Rattle.writing.proofs.Texts.{wrote-within, wrote-start}
 use Rattle.writing.proofs.Answers.{fits-answer, short-answer, text-left}

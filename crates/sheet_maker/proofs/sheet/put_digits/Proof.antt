@@ -1,14 +1,13 @@
 use Prim.Native.Nat.{_+_, _-_, _≤_}
-use mathlib.Core.Path.{_≡_, sym, ap, _∙_}
-use mathlib.Core.List.{List, [], _∷_, _++_}
+use mathlib.Core.Path.{_≡_, ap, _∙_}
+use mathlib.Core.List.{[], _∷_, _++_}
 use native.Mathlib.Omega.{arith}
-use lib.ListN.{length}
 use Rattle.tables.specs.Bit.{bitAt}
 use Rattle.tables.specs.Place.{tabulate, tabulateFrom}
 use Rattle.text.specs.Written.{digitsText}
 use Rattle.writing.specs.Lent.{Wrote}
 use Rattle.writing.proofs.Texts.{wrote-none, wrote-both, wrote-is}
-use Rattle.sheet_maker.proofs.Texts.{digits-next, digits-length}
+use Rattle.sheet_maker.proofs.Texts.{digits-next}
 use borrow.Author.Needs.{needs}
 use Rattle.tables.specs.Choice.{pick}
 use borrow.Author.Needs.{needs}

@@ -1,8 +1,8 @@
 use Prim.Native.Nat.{_+_, _*_, _-_, _≤_}
-use mathlib.Core.Path.{_≡_, sym, ap, _∙_}
+use mathlib.Core.Path.{sym, ap, _∙_}
 use mathlib.Core.List.{[]}
 use native.Mathlib.Omega.{arith}
-use lib.ListN.{length, take, length-map}
+use lib.ListN.{take, length-map}
 use Rattle.text.specs.Written.{digitsText, writtenBody}
 use Rattle.sheet_file.specs.Written.{rowsOf}
 use Rattle.writing.specs.Lent.{Wrote}
