@@ -14,6 +14,7 @@ use Rattle.tables.specs.Kind.{kindAt, wordOf, placeOf}
 use Rattle.tables.specs.Place.{placed}
 use Rattle.tables.proofs.KindTable.{word-short, kind-of-row}
 use Rattle.tables.proofs.Places.{length-tabulate, take-placed}
+use Rattle.tables.specs.declared.refusal.Outcome.{Outcome}
 use Rattle.tables.specs.declared.refusal.Outcome.the-variants.{Accepted, Refused}
 use Rattle.tables.specs.declared.refusal.Reason.{Reason}
 use Rattle.tables.specs.declared.refusal.Refusal.{Refusal}
@@ -34,9 +35,11 @@ use Rattle.text.proofs.Lines.{Free}
 use Rattle.text.proofs.Bodies.{BodyOf, body-starts, body-surplus, body-line, body-written, body-read}
 use Rattle.text.proofs.Headers.{count-then, count-in, count-below, count-above, count-range, map-accepted, test-accepted, outcome-accepted, parsed-accepted}
 use Rattle.text.proofs.Elements.{decimal-short, count-short, body-short}
+use Rattle.text.proofs.Answered.{accepted-table}
 use Rattle.text.proofs.RefusedLines.{RefusedBy, map-by, test-by, count-by, body-by, refused-line, outcome-line}
 use Rattle.rule_file.specs.Row.{inRange, rowValue}
-use Rattle.rule_file.specs.Rule.{inPlace, unused, formulaOf, ruleLines, parseRule}
+use Rattle.rule_file.specs.Rule.{inPlace, unused, formulaOf, ruleLines, parseRule, ruleAnswer}
+use Rattle.rule_file.specs.declared.rule.RuleAnswer.{RuleAnswer}
 use Rattle.rule_file.specs.Written.{numbersText, writtenRow, rowsOf, ruleText, writtenRule}
 use Rattle.rule_file.specs.Valid.{InRange, Valid}
 use Rattle.rule_file.proofs.WrittenRows.{Small, row-free, range-small, value-written, value-read, any-row-free, any-value-read}
@@ -259,3 +262,11 @@ rule-refused-line file e n q = refused-line 68 (parseRule file) (refused-by file
 
 pub rule-outcome-line : (file : List ℕ) (x : Refusal) → outcomeOf 1 (parseRule file) ≡ Refused x → x .line ≤ 68
 rule-outcome-line file x q = outcome-line 68 (parseRule file) (refused-by file) 1 x q
+
+-- ---- what the reader's answer says of the file
+module _ (p : Result Formula) (a : RuleAnswer) (e : a ≡ ruleAnswer p) where
+  pub rule-said : {o : Outcome} → a .outcome ≡ o → outcomeOf 1 p ≡ o
+  rule-said h = sym (ap (λ (x : RuleAnswer). x .outcome) e) ∙ h
+
+  pub rule-is : a .outcome ≡ Accepted → p ≡ accepted (a .formula)
+  rule-is h = accepted-table 1 (formulaOf 0 0 []) p (rule-said h) ∙ ap (λ (x : RuleAnswer). accepted (x .formula)) (sym e)

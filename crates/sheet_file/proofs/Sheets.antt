@@ -11,8 +11,11 @@ use Rattle.tables.specs.Choice.{pick}
 use Rattle.tables.specs.Bytes.{bytes}
 use Rattle.tables.specs.Place.{tabulate, placed}
 use Rattle.tables.specs.Bit.{bitAt}
+use Rattle.tables.specs.declared.refusal.Reason.{Reason}
 use Rattle.tables.specs.declared.refusal.Reason.the-variants.{TooLong, WrongFormat, CountOutOfRange}
-use Rattle.tables.specs.declared.refusal.Outcome.the-variants.{Accepted}
+use Rattle.tables.specs.declared.refusal.Refusal.{Refusal}
+use Rattle.tables.specs.declared.refusal.Outcome.{Outcome}
+use Rattle.tables.specs.declared.refusal.Outcome.the-variants.{Accepted, Refused}
 use Rattle.tables.specs.declared.trace.Activation.{Activation}
 use Rattle.tables.specs.declared.trace.Line.{Line}
 use Rattle.tables.proofs.Places.{length-tabulate, tabulate-ext, tabulate-getD, take-tabulate, map-tabulate}
@@ -26,9 +29,12 @@ use Rattle.text.specs.Result.Result.{accepted, refused}
 use Rattle.text.specs.Written.{decimal, writtenLine, writtenBody, digitsText}
 use Rattle.text.proofs.DigitLines.{digits-written, digits-free, digits-read, text-length}
 use Rattle.text.proofs.Bodies.{body-written, body-read}
+use Rattle.text.proofs.Answered.{accepted-table}
+use Rattle.text.proofs.RefusedLines.{RefusedBy, map-by, test-by, count-by, body-by, refused-line, outcome-line}
 use Rattle.text.proofs.Elements.{all-ok, ok-at, count-short, body-short}
 use Rattle.text.proofs.Headers.{map-accepted, test-accepted, outcome-accepted, count-then, count-in, count-below, count-above, count-range}
-use Rattle.sheet_file.specs.Sheet.{rowLine, activationOf, parseSheet}
+use Rattle.sheet_file.specs.Sheet.{rowLine, activationOf, parseSheet, sheetAnswer}
+use Rattle.sheet_file.specs.declared.sheet.SheetAnswer.{SheetAnswer}
 use Rattle.sheet_file.specs.Written.{rowsOf, writtenSheet}
 use Rattle.sheet_file.specs.Valid.{InRange, Valid}
 
@@ -212,3 +218,28 @@ checked a e =
 -- and one in range passes it
 pub checked-all : (a : Activation) → length (a .lines) ≡ 128 → InRange a → outcomeOf 3 (parseSheet (writtenSheet a)) ≡ Accepted
 checked-all a full r = ap (outcomeOf 3) (in-range a full (r .some-rows) (r .most-rows) (r .some-cycles) (r .most-cycles))
+
+-- ---- the line of a refusal: three lines of the header, up to 128 rows, and the line behind them
+refused-by : (file : List ℕ) → RefusedBy 132 (parseSheet file)
+refused-by file =
+    rw by-lines
+    (test-by 132 (ltb 65536 (length file)) TooLong 0 (onLine 1 (keyedLine (isKey (bytes "format")) (countForm 1 1 WrongFormat)) file FromRows) (omega arith)
+    (count-by 132 1 (bytes "format") 1 1 WrongFormat file FromRows (omega arith) λ one after-format o.
+    count-by 132 2 (bytes "rows") 1 128 CountOutOfRange after-format FromCycles (omega arith) λ rows after-rows s.
+    count-by 132 3 (bytes "cycles") 1 256 CountOutOfRange after-rows (FromBody rows) (omega arith) λ cycles body m.
+    map-by 132 (activationOf rows cycles) (bodyLines 122 (λ r. digitsForm cycles) rows 1 4 body) (body-by 132 122 (λ r. digitsForm cycles) rows 1 4 body (omega arith))))
+
+-- A REFUSED SHEET FILE NAMES A LINE UP TO 132
+pub sheet-refused-line : (file : List ℕ) (e : Reason) (n : ℕ) → parseSheet file ≡ refused e n → n ≤ 132
+sheet-refused-line file e n q = refused-line 132 (parseSheet file) (refused-by file) e n q
+
+pub sheet-outcome-line : (file : List ℕ) (x : Refusal) → outcomeOf 3 (parseSheet file) ≡ Refused x → x .line ≤ 132
+sheet-outcome-line file x q = outcome-line 132 (parseSheet file) (refused-by file) 3 x q
+
+-- ---- what the reader's answer says of the file
+module _ (p : Result Activation) (a : SheetAnswer) (e : a ≡ sheetAnswer p) where
+  pub sheet-said : {o : Outcome} → a .outcome ≡ o → outcomeOf 3 p ≡ o
+  sheet-said h = sym (ap (λ (x : SheetAnswer). x .outcome) e) ∙ h
+
+  pub sheet-is : a .outcome ≡ Accepted → p ≡ accepted (a .activation)
+  sheet-is h = accepted-table 3 (activationOf 0 0 []) p (sheet-said h) ∙ ap (λ (x : SheetAnswer). accepted (x .activation)) (sym e)

@@ -13,6 +13,7 @@ use Rattle.tables.specs.Bit.{bitAt, lineOf}
 use Rattle.tables.specs.declared.refusal.Reason.{Reason}
 use Rattle.tables.specs.declared.refusal.Reason.the-variants.{TooLong, WrongFormat, CountOutOfRange, BadLoop}
 use Rattle.tables.specs.declared.refusal.Refusal.{Refusal}
+use Rattle.tables.specs.declared.refusal.Outcome.{Outcome}
 use Rattle.tables.specs.declared.refusal.Outcome.the-variants.{Accepted, Refused}
 use Rattle.tables.specs.declared.trace.Ending.{Ending}
 use Rattle.tables.specs.declared.trace.Ending.the-variants.{Open, Loop}
@@ -33,10 +34,12 @@ use Rattle.text.proofs.Lines.{line-step}
 use Rattle.text.proofs.DigitLines.{digits-written, digits-free, digits-read, text-length}
 use Rattle.text.proofs.Bodies.{body-written, body-read}
 use Rattle.text.proofs.Elements.{all-ok, ok-at, decimal-short, line-length, count-short, body-short}
+use Rattle.text.proofs.Answered.{accepted-table}
 use Rattle.text.proofs.RefusedLines.{RefusedBy, map-by, test-by, line-by, count-by, body-by, refused-line, outcome-line}
 use Rattle.text.proofs.Headers.{free, parsed-accepted, map-accepted, test-accepted, outcome-accepted, line-then, count-then, count-in, count-below, count-above, count-range}
 use Rattle.take_file.specs.Ending.{endingValue}
-use Rattle.take_file.specs.Take.{digit, linesOf, traceOf, parseTake}
+use Rattle.take_file.specs.Take.{digit, linesOf, traceOf, parseTake, takeAnswer}
+use Rattle.take_file.specs.declared.take.TakeAnswer.{TakeAnswer}
 use Rattle.take_file.specs.Written.{endingText, cyclesOf, writtenTake}
 use Rattle.take_file.specs.Valid.{Below, isBelow, InRange, Valid}
 use Rattle.take_file.proofs.Endings.{ending-free, ending-written, ending-outside, ending-read, ending-range}
@@ -277,3 +280,11 @@ take-refused-line file e n q = refused-line 261 (parseTake file) (refused-by fil
 
 pub take-outcome-line : (file : List ℕ) (x : Refusal) → outcomeOf 2 (parseTake file) ≡ Refused x → x .line ≤ 261
 take-outcome-line file x q = outcome-line 261 (parseTake file) (refused-by file) 2 x q
+
+-- ---- what the reader's answer says of the file
+module _ (p : Result Trace) (a : TakeAnswer) (e : a ≡ takeAnswer p) where
+  pub take-said : {o : Outcome} → a .outcome ≡ o → outcomeOf 2 p ≡ o
+  take-said h = sym (ap (λ (x : TakeAnswer). x .outcome) e) ∙ h
+
+  pub take-is : a .outcome ≡ Accepted → p ≡ accepted (a .trace)
+  take-is h = accepted-table 2 (traceOf 0 0 Open []) p (take-said h) ∙ ap (λ (x : TakeAnswer). accepted (x .trace)) (sym e)

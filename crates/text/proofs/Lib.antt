@@ -7,3 +7,4 @@ pub mod Counts
 pub mod Headers
 pub mod Elements
 pub mod RefusedLines
+pub mod Answered
