@@ -2,9 +2,9 @@ use mathlib.Core.Path.{_≡_, refl, sym, ap, _∙_}
 use native.Mathlib.Omega.{arith}
 use Rattle.rule_file.specs.Rule.{parseRule}
 use Rattle.take_file.specs.Take.{parseTake}
-use Rattle.rule_file.proofs.Rules.{rule-read, rule-outcome-line}
-use Rattle.take_file.proofs.Takes.{take-read, take-outcome-line}
-use Rattle.judge_text.proofs.Answers.{rule-said, rule-is, rule-refused-text, take-said, take-is, take-refused-text, pair-text}
+use Rattle.rule_file.proofs.Rules.{rule-read, rule-outcome-line, rule-said, rule-is}
+use Rattle.take_file.proofs.Takes.{take-read, take-outcome-line, take-said, take-is}
+use Rattle.judge_text.proofs.Answers.{rule-refused-text, take-refused-text, pair-text}
 use borrow.Author.Needs.{needs}
 use Rattle.judge_text.proofs.put_text.Statement.{statement}
 use Rattle.judge_text.proofs.put_text.Tie as tie
@@ -19,13 +19,13 @@ put-pair-requires : tie.Need-put-pair-requires
 put-pair-requires c κs = (search needs, rule-read _ _ (rule-is (parseRule (c .before .before .before .before .before .before .before .before .before .before .args .rule .now)) (c .before .before .before .before .before .before .read-rule .result) (c .before .before .before .before .before .before .read-rule .ensures) (c .before .before .before .before .enum-told .given .1)) .1 .in-range, take-read _ _ (take-is (parseTake (c .before .before .before .before .before .before .before .before .before .before .args .take .now)) (c .before .before .before .read-take .result) (c .before .before .before .read-take .ensures) (c .before .enum-told2 .given .1)) .1 .range)
 
 returns : tie.Need-returns
-returns c = (_, rule-refused-text (parseRule (c .before .before .before .before .before .before .before .before .before .before .before .args .rule .now)) (c .before .before .before .before .before .before .before .read-rule .result) (c .before .before .before .before .before .before .before .read-rule .ensures) (c .before .before .before .before .before .outcome .given .1) (parseTake (c .before .before .before .before .before .before .before .before .before .before .before .args .take .now)), c .before .before .put-refusal .ensures .0)
+returns c = let p = parseRule (c .before .before .before .before .before .before .before .before .before .before .before .args .rule .now) in let q = parseTake (c .before .before .before .before .before .before .before .before .before .before .before .args .take .now) in (_, rule-refused-text p q (rule-said p (c .before .before .before .before .before .before .before .read-rule .result) (c .before .before .before .before .before .before .before .read-rule .ensures) (c .before .before .before .before .before .outcome .given .1)), c .before .before .put-refusal .ensures .0)
 
 returns-2 : tie.Need-returns-2
-returns-2 c = (_, take-refused-text (parseTake (c .before .before .before .before .before .before .before .before .before .before .before .before .before .before .args .take .now)) (c .before .before .before .before .before .before .before .read-take .result) (c .before .before .before .before .before .before .before .read-take .ensures) (c .before .before .before .before .before .other .given .1) (parseRule (c .before .before .before .before .before .before .before .before .before .before .before .before .before .before .args .rule .now)) (rule-is (parseRule (c .before .before .before .before .before .before .before .before .before .before .before .before .before .before .args .rule .now)) (c .before .before .before .before .before .before .before .before .before .before .read-rule .result) (c .before .before .before .before .before .before .before .before .before .before .read-rule .ensures) (c .before .before .before .before .before .before .before .before .enum-told .given .1)), c .before .before .put-refusal2 .ensures .0)
+returns-2 c = let p = parseRule (c .before .before .before .before .before .before .before .before .before .before .before .before .before .before .args .rule .now) in let q = parseTake (c .before .before .before .before .before .before .before .before .before .before .before .before .before .before .args .take .now) in (_, take-refused-text p q (rule-is p (c .before .before .before .before .before .before .before .before .before .before .read-rule .result) (c .before .before .before .before .before .before .before .before .before .before .read-rule .ensures) (c .before .before .before .before .before .before .before .before .enum-told .given .1)) (take-said q (c .before .before .before .before .before .before .before .read-take .result) (c .before .before .before .before .before .before .before .read-take .ensures) (c .before .before .before .before .before .other .given .1)), c .before .before .put-refusal2 .ensures .0)
 
 returns-3 : tie.Need-returns-3
-returns-3 c = let x = c .before .before .put-pair .ensures in (x .0, pair-text (parseRule (c .before .before .before .before .before .before .before .before .before .before .before .before .before .args .rule .now)) (parseTake (c .before .before .before .before .before .before .before .before .before .before .before .before .before .args .take .now)) (rule-is (parseRule (c .before .before .before .before .before .before .before .before .before .before .before .before .before .args .rule .now)) (c .before .before .before .before .before .before .before .before .before .read-rule .result) (c .before .before .before .before .before .before .before .before .before .read-rule .ensures) (c .before .before .before .before .before .before .before .enum-told .given .1)) (take-is (parseTake (c .before .before .before .before .before .before .before .before .before .before .before .before .before .args .take .now)) (c .before .before .before .before .before .before .read-take .result) (c .before .before .before .before .before .before .read-take .ensures) (c .before .before .before .before .enum-told2 .given .1)) (x .0) (x .1), x .2)
+returns-3 c = let p = parseRule (c .before .before .before .before .before .before .before .before .before .before .before .before .before .args .rule .now) in let q = parseTake (c .before .before .before .before .before .before .before .before .before .before .before .before .before .args .take .now) in let x = c .before .before .put-pair .ensures in (x .0, pair-text p q (rule-is p (c .before .before .before .before .before .before .before .before .before .read-rule .result) (c .before .before .before .before .before .before .before .before .before .read-rule .ensures) (c .before .before .before .before .before .before .before .enum-told .given .1)) (take-is q (c .before .before .before .before .before .before .read-take .result) (c .before .before .before .before .before .before .read-take .ensures) (c .before .before .before .before .enum-told2 .given .1)) (x .0) (x .1), x .2)
 
 pub put-text-spec : {M : Type 1} → statement M
 put-text-spec =
