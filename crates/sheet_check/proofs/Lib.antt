@@ -5,3 +5,4 @@ pub mod Conclusions
 pub mod Answers
 pub mod Demand
 pub mod ByRun
+pub mod Bounds
