@@ -1,0 +1,67 @@
+-- The text of `check_sheet_file` by its cases. Assumes nothing.
+use Prim.Native.Nat.{ℕ}
+use mathlib.Core.Path.{_≡_, refl, subst⁻¹}
+use mathlib.Core.Bool.{true, false, _&&_}
+use mathlib.Core.List.{List}
+use native.Mathlib.Omega.{arith}
+use lib.Dec.{eqb}
+use borrow.Author.Tests.{eq-eqb, ne-eqb}
+use Rattle.tables.specs.declared.refusal.Reason.the-variants.{SignalsDiffer, SizeDiffers}
+use Rattle.tables.specs.declared.refusal.Refusal.{Refusal}
+use Rattle.tables.specs.declared.refusal.Outcome.the-variants.{Refused}
+use Rattle.tables.specs.declared.row.Formula.{Formula}
+use Rattle.tables.specs.declared.row.NormalForm.{NormalForm}
+use Rattle.tables.specs.declared.trace.Activation.{Activation}
+use Rattle.tables.specs.declared.trace.Trace.{Trace}
+use Rattle.text.specs.Result.{Result, outcomeOf}
+use Rattle.text.specs.Result.Result.{accepted}
+use Rattle.text.proofs.Answered.{refused-table}
+use Rattle.take_file.specs.Valid.{InRange}
+use Rattle.normal_form.specs.declared.sign.Sign.the-variants.{Plain}
+use Rattle.normal_form.specs.Numbering.{normalForm}
+use Rattle.writing.specs.Refusal.{refusalText}
+use Rattle.sheet_check.specs.declared.finding.Finding.{Finding}
+use Rattle.sheet_check.specs.declared.finding.Finding.the-variants.{Root, Failed, Starved, Pending, Passes}
+use Rattle.sheet_check.specs.Finding.{FindingOf}
+use Rattle.sheet_check.proofs.Bounds.{failed-cycle}
+use Rattle.check_text.specs.Text.{CycleBelow, findingText}
+use Rattle.check_text.specs.Answer.{IsCheckText}
+
+-- a finding's cycle has at most three digits
+pub finding-cycle : (g : NormalForm) (t : Trace) (a : Activation) → InRange t → (x : Finding) → FindingOf g t a x → CycleBelow 1000 x
+finding-cycle g t a r Root f = tt
+finding-cycle g t a r (Failed row cycle) f = omega (arith, failed-cycle g t a r row cycle f)
+finding-cycle g t a r (Starved row) f = tt
+finding-cycle g t a r (Pending row) f = tt
+finding-cycle g t a r Passes f = tt
+
+-- ---- three tables
+module _ (f : Formula) (t : Trace) (a : Activation) where
+  pub seven-text : (f .signals ≡ t .signals → ⊥) → IsCheckText (accepted f) (accepted t) (accepted a) (refusalText (record { reason = SignalsDiffer; file = 0; line = 0 }))
+  seven-text n = rw (ne-eqb (f .signals) (t .signals) n) refl
+
+  module _ (e : f .signals ≡ t .signals) where
+    pub nine-text : (eqb (a .rows) (normalForm f Plain .rows) && eqb (a .cycles) (t .cycles)) ≡ false → IsCheckText (accepted f) (accepted t) (accepted a) (refusalText (record { reason = SizeDiffers; file = 0; line = 0 }))
+    nine-text n = rw (eq-eqb (f .signals) (t .signals) e, n) refl
+
+    pub found-text : (eqb (a .rows) (normalForm f Plain .rows) && eqb (a .cycles) (t .cycles)) ≡ true → (x : Finding) → FindingOf (normalForm f Plain) t a x → IsCheckText (accepted f) (accepted t) (accepted a) (findingText x)
+    found-text n x is = rw (eq-eqb (f .signals) (t .signals) e, n) (x, is, refl)
+
+-- ---- three files
+module _ (p : Result Formula) (q : Result Trace) (s : Result Activation) where
+  pub rule-refused-text : {x : Refusal} → outcomeOf 1 p ≡ Refused x → IsCheckText p q s (refusalText x)
+  rule-refused-text h = refused-table 1 p h (λ p x. IsCheckText p q s (refusalText x)) (λ e n. refl)
+
+  module _ {f : Formula} (g : p ≡ accepted f) where
+    pub take-refused-text : {x : Refusal} → outcomeOf 2 q ≡ Refused x → IsCheckText p q s (refusalText x)
+    take-refused-text {x} h = subst⁻¹ (λ p. IsCheckText p q s (refusalText x)) g (refused-table 2 q h (λ q x. IsCheckText (accepted f) q s (refusalText x)) (λ e n. refl))
+
+    pub sheet-text : {t : Trace} → q ≡ accepted t → (text : List ℕ) → IsCheckText (accepted f) (accepted t) s text → IsCheckText p q s text
+    sheet-text h text x = subst⁻¹ (λ p. IsCheckText p q s text) g (subst⁻¹ (λ q. IsCheckText (accepted f) q s text) h x)
+
+module _ (f : Formula) (t : Trace) (s : Result Activation) where
+  pub sheet-refused-text : {x : Refusal} → outcomeOf 3 s ≡ Refused x → IsCheckText (accepted f) (accepted t) s (refusalText x)
+  sheet-refused-text h = refused-table 3 s h (λ s x. IsCheckText (accepted f) (accepted t) s (refusalText x)) (λ e n. refl)
+
+  pub tables-text : {a : Activation} → s ≡ accepted a → (text : List ℕ) → IsCheckText (accepted f) (accepted t) (accepted a) text → IsCheckText (accepted f) (accepted t) s text
+  tables-text h text x = subst⁻¹ (λ s. IsCheckText (accepted f) (accepted t) s text) h x

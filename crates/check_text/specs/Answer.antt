@@ -1,0 +1,44 @@
+-- The text of `check_sheet_file` for three files. Assumes nothing.
+use Prim.Native.Nat.{ℕ}
+use mathlib.Core.Path.{_≡_}
+use mathlib.Core.List.{List}
+use Rattle.tables.specs.Refusal.{andThen}
+use Rattle.tables.specs.declared.refusal.Outcome.{Outcome}
+use Rattle.tables.specs.declared.refusal.Outcome.the-variants.{Accepted, Refused}
+use Rattle.tables.specs.declared.row.Formula.{Formula}
+use Rattle.tables.specs.declared.trace.Activation.{Activation}
+use Rattle.tables.specs.declared.trace.Trace.{Trace}
+use Rattle.text.specs.Result.{Result}
+use Rattle.text.specs.Result.Result.{accepted, refused}
+use Rattle.rule_file.specs.Rule.{parseRule}
+use Rattle.take_file.specs.Take.{parseTake}
+use Rattle.sheet_file.specs.Sheet.{parseSheet}
+use Rattle.normal_form.specs.declared.sign.Sign.the-variants.{Plain}
+use Rattle.normal_form.specs.Numbering.{normalForm}
+use Rattle.writing.specs.declared.answer.Bytes.{Bytes}
+use Rattle.writing.specs.Answer.{writtenAnswer}
+use Rattle.writing.specs.Lent.{overlaid}
+use Rattle.writing.specs.Refusal.{refusalText}
+use Rattle.sheet_check.specs.declared.finding.Finding.{Finding}
+use Rattle.sheet_check.specs.Finding.{FindingOf}
+use Rattle.sheet_check.specs.Answer.{sevenOutcome, nineOutcome}
+use Rattle.check_text.specs.Text.{findingText}
+
+-- the refusal, or the finding on the normal form
+abbrev pub IsOutcomeText : Outcome → Formula → Trace → Activation → List ℕ → Type 0
+IsOutcomeText (Refused x) f t a text = text ≡ refusalText x
+IsOutcomeText Accepted f t a text = (x : Finding) × FindingOf (normalForm f Plain) t a x × (text ≡ findingText x)
+
+-- "Files go rule, take, sheet"; "file (1 rule, 2 take, 3 sheet)"; "Then 7 to 10 in order"
+abbrev pub IsCheckText : Result Formula → Result Trace → Result Activation → List ℕ → Type 0
+IsCheckText (refused e n) take sheet text = text ≡ refusalText (record { reason = e; file = 1; line = n })
+IsCheckText (accepted f) (refused e n) sheet text = text ≡ refusalText (record { reason = e; file = 2; line = n })
+IsCheckText (accepted f) (accepted t) (refused e n) text = text ≡ refusalText (record { reason = e; file = 3; line = n })
+IsCheckText (accepted f) (accepted t) (accepted a) text = IsOutcomeText (andThen (sevenOutcome f t) (nineOutcome f t a)) f t a text
+
+-- the text goes into the buffer whole, or nothing does
+pub record Prints (rule take sheet before after : List ℕ) (answer : Bytes) : Type 0 where
+  pub text : List ℕ
+  pub is-text : IsCheckText (parseRule rule) (parseTake take) (parseSheet sheet) text
+  pub answered : answer ≡ writtenAnswer text before
+  pub left : after ≡ overlaid text before

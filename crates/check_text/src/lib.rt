@@ -1,0 +1,96 @@
+// The text that program `check_sheet_file` prints, from the bytes of its three files.
+use normal_form::sign::Sign;
+use tables::refusal::Outcome;
+use tables::refusal::Reason;
+use tables::refusal::Refusal;
+use tables::row::Formula;
+use tables::trace::Activation;
+use tables::trace::Trace;
+use writing::answer::Bytes;
+ghost use mathlib.Core.List.{List};
+ghost use lib.ListN.{length};
+ghost use Prim.Native.Nat.{ℕ, _≤_};
+ghost use Rattle.text.specs.Result.Result.{accepted};
+ghost use Rattle.rule_file.specs.Rule.{parseRule};
+ghost use Rattle.rule_file.specs.Valid.{InRange as FormulaInRange};
+ghost use Rattle.take_file.specs.Take.{parseTake};
+ghost use Rattle.take_file.specs.Valid.{InRange as TraceInRange};
+ghost use Rattle.sheet_file.specs.Sheet.{parseSheet};
+ghost use Rattle.writing.specs.Lent.{Wrote};
+ghost use Rattle.check_text.specs.Answer.{IsCheckText, Prints};
+
+pub mod finding;
+
+// Three tables that were read: 7, then 9, then the finding.
+fn put_tables(buf: &mut [u8], formula: Formula, trace: Trace, activation: Activation) -> usize
+    requires { ⌜ (64 ≤ length (now buf)) × FormulaInRange formula × TraceInRange trace ⌝ }
+    ensures { λ r. ⌜ ((text : List ℕ) × IsCheckText (accepted formula) (accepted trace) (accepted activation) text × Wrote (now (buf .entry)) 0 text (now (buf .exit)) r) ⌝ }
+{
+    if formula.signals != trace.signals {
+        let refusal = Refusal {
+            reason: Reason::SignalsDiffer,
+            file: 0,
+            line: 0,
+        };
+        return writing::line::put_refusal(buf, 0, refusal);
+    }
+    let form = normal_form::normal_form(formula, Sign::Plain);
+    if (activation.rows == form.rows) & (activation.cycles == trace.cycles) {
+        let found = sheet_check::find::find(form, trace, activation);
+        return finding::put_finding(buf, found);
+    }
+    let refusal = Refusal {
+        reason: Reason::SizeDiffers,
+        file: 0,
+        line: 0,
+    };
+    writing::line::put_refusal(buf, 0, refusal)
+}
+
+fn put_sheet(buf: &mut [u8], formula: Formula, trace: Trace, sheet: &[u8]) -> usize
+    requires { ⌜ (64 ≤ length (now buf)) × FormulaInRange formula × TraceInRange trace ⌝ }
+    ensures { λ r. ⌜ ((text : List ℕ) × IsCheckText (accepted formula) (accepted trace) (parseSheet (now (sheet .entry))) text × Wrote (now (buf .entry)) 0 text (now (buf .exit)) r) ⌝ }
+{
+    let third = sheet_file::sheet::read_sheet(sheet);
+    let outcome = third.outcome;
+    match outcome {
+        Outcome::Refused(refusal) => writing::line::put_refusal(buf, 0, refusal),
+        Outcome::Accepted => put_tables(buf, formula, trace, third.activation),
+    }
+}
+
+fn put_text(buf: &mut [u8], rule: &[u8], take: &[u8], sheet: &[u8]) -> usize
+    requires { ⌜ 64 ≤ length (now buf) ⌝ }
+    ensures { λ r. ⌜ ((text : List ℕ) × IsCheckText (parseRule (now (rule .entry))) (parseTake (now (take .entry))) (parseSheet (now (sheet .entry))) text × Wrote (now (buf .entry)) 0 text (now (buf .exit)) r) ⌝ }
+{
+    let first = rule_file::rule::read_rule(rule);
+    let outcome = first.outcome;
+    match outcome {
+        Outcome::Refused(refusal) => writing::line::put_refusal(buf, 0, refusal),
+        Outcome::Accepted => {
+            let second = take_file::take::read_take(take);
+            let other = second.outcome;
+            match other {
+                Outcome::Refused(refusal) => writing::line::put_refusal(buf, 0, refusal),
+                Outcome::Accepted => put_sheet(buf, first.formula, second.trace, sheet),
+            }
+        }
+    }
+}
+
+// SERVICE: the text of `check_sheet_file` for the bytes of a rule file, of a take file and of a sheet file, written whole or not at all.
+pub fn check(rule: &[u8], take: &[u8], sheet: &[u8], buf: &mut [u8]) -> Bytes
+    ensures { λ r. ⌜ Prints (now (rule .entry)) (now (take .entry)) (now (sheet .entry)) (now (buf .entry)) (now (buf .exit)) r ⌝ }
+{
+    let mut space = [0u8; 64];
+    let n = put_text(&mut space, rule, take, sheet);
+    if writing::put::deliver(&space[..n], buf) {
+        Bytes::Count(n)
+    } else {
+        Bytes::Refused(Refusal {
+            reason: Reason::ShortBuffer,
+            file: 0,
+            line: 0,
+        })
+    }
+}
