@@ -2,7 +2,7 @@ use mathlib.Core.Path.{_≡_, sym, _∙_}
 use lib.Seq.{length-take-le}
 use Rattle.text.proofs.Searching.{know}
 use Rattle.writing.proofs.Texts.{wrote-within, wrote-start}
-use Rattle.writing.proofs.Delivered.{fits-answer, short-answer, text-left}
+use Rattle.writing.proofs.Answers.{fits-answer, short-answer, text-left}
 use borrow.Author.Needs.{needs}
 use Rattle.check_text.proofs.check.Statement.{statement}
 use Rattle.check_text.proofs.check.Tie as tie

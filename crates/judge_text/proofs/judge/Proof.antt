@@ -6,7 +6,7 @@ use lib.Seq.{length-take-le}
 use Rattle.tables.specs.Choice.{pick}
 use Rattle.text.proofs.Searching.{know}
 use Rattle.writing.proofs.Texts.{wrote-within, wrote-start}
-use Rattle.writing.proofs.Delivered.{fits-answer, short-answer, text-left}
+use Rattle.writing.proofs.Answers.{fits-answer, short-answer, text-left}
 use borrow.Author.Needs.{needs}
 use Rattle.judge_text.proofs.judge.Statement.{statement}
 use Rattle.judge_text.proofs.judge.Tie as tie
