@@ -22,6 +22,8 @@ use Rattle.tables.specs.declared.trace.Line.{Line}
 use Rattle.tables.specs.declared.trace.Trace.{Trace}
 use Rattle.rule_file.specs.Valid.{InRange as FormulaInRange}
 use Rattle.take_file.specs.Valid.{Below as LoopBelow, InRange as TraceInRange}
+use Rattle.text.specs.Result.Result.{accepted}
+use Rattle.sheet_file.specs.Sheet.{parseSheet}
 use Rattle.sheet_file.specs.Written.{writtenSheet}
 use Rattle.meaning.specs.Reading.{classical}
 use Rattle.meaning.specs.Trace.{InfiniteTrace, unrolled, Extends}
@@ -47,6 +49,7 @@ use Rattle.sheet_maker.specs.declared.MakerAnswer.{MakerAnswer}
 use Rattle.sheet_maker.specs.declared.MakerAnswer.the-variants.{Written, None, Refused as MakerRefused}
 use Rattle.sheet_maker.specs.Made.{SatisfiedIn, Satisfied, IsMade}
 use Rattle.sheet_maker.specs.Answer.{answerOf, Answers, Answers.sheet, Answers.none, MakesOn, Makes}
+use Rattle.sheet_maker.proofs.ReadBack.{made-read}
 
 -- ---- there is a sheet of the rows' truth
 
@@ -137,10 +140,15 @@ module _ (f : Formula) (t : Trace) (fine : FormulaInRange f) (range : TraceInRan
 
 -- ---- what the maker does
 
--- the answer and the bytes are those of a passing sheet's file: its length, or 10 where the buffer is shorter
-abbrev pub WritesPassing : Formula → Trace → List ℕ → List ℕ → MakerAnswer → Type 0
-WritesPassing f t before after answer =
-    (a : Activation) × Fits (normalForm f Plain) t a × Passes (normalForm f Plain) t a × (answer ≡ answerOf (writtenAnswer (writtenSheet a) before)) × (after ≡ overlaid (writtenSheet a) before)
+-- the answer and the bytes are those of a text that is read as a passing sheet: its length, or 10 where the buffer is shorter
+pub record WritesPassing (f : Formula) (t : Trace) (before after : List ℕ) (answer : MakerAnswer) : Type 0 where
+  pub text : List ℕ
+  pub sheet : Activation
+  pub reads : parseSheet text ≡ accepted sheet
+  pub fits : Fits (normalForm f Plain) t sheet
+  pub passes : Passes (normalForm f Plain) t sheet
+  pub answered : answer ≡ answerOf (writtenAnswer text before)
+  pub left : after ≡ overlaid text before
 
 IsNone : MakerAnswer → Type 0
 IsNone (Written n) = ⊥
@@ -154,7 +162,17 @@ never-none (BytesRefused why) e = subst⁻¹ IsNone e tt
 
 module _ (f : Formula) (t : Trace) (fine : FormulaInRange f) (range : TraceInRange t) (before after : List ℕ) (answer : MakerAnswer) where
   writes : HasSheet f t → Answers f t before after answer → WritesPassing f t before after answer
-  writes x (sheet s a made p q) = (a, record { rows = made .rows; cycles = made .cycles }, made-passes f t fine range a s made, p, q)
+  writes x (sheet s a made p q) =
+      let b = made-read (normalForm f Plain) t a (form-normal f Plain fine) range made in
+      record {
+        text = writtenSheet a;
+        sheet = b .0;
+        reads = b .1;
+        fits = record { rows = b .2 .rows; cycles = b .2 .cycles };
+        passes = made-passes f t fine range (b .0) s (b .2);
+        answered = p;
+        left = q;
+      }
   writes x (none s p q) = absurd (s (sheet-exists f t fine range .0 x))
 
   silent : ¬ HasSheet f t → Answers f t before after answer → (answer ≡ None) × (after ≡ before)
@@ -166,13 +184,13 @@ module _ (f : Formula) (t : Trace) (fine : FormulaInRange f) (range : TraceInRan
   said (none s p q) e x = s (sheet-exists f t fine range .0 x)
 
   -- "Refusals aside, we write
-  module _ (accepted : pairOutcome f t ≡ Accepted) (makes : Makes f t before after answer) where
+  module _ (fine-pair : pairOutcome f t ≡ Accepted) (makes : Makes f t before after answer) where
     answers : Answers f t before after answer
-    answers = subst (λ o. MakesOn o f t before after answer) accepted makes
+    answers = subst (λ o. MakesOn o f t before after answer) fine-pair makes
 
     -- a passing sheet exactly when there is one
     pub maker-writes : HasSheet f t ↔ WritesPassing f t before after answer
-    maker-writes = (λ x. writes x answers, λ w. (w .0, w .1, w .2))
+    maker-writes = (λ x. writes x answers, λ w. (w .sheet, w .fits, w .passes))
 
     -- and answer `none` otherwise";
     pub maker-none : (¬ HasSheet f t) ↔ (answer ≡ None)

@@ -1,4 +1,5 @@
 pub mod Texts
 pub mod Sheets
 pub mod Answers
+pub mod ReadBack
 pub mod Demand

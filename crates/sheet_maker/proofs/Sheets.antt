@@ -63,7 +63,7 @@ same-on P false true p q = p .1 (q .0 refl)
 same-on P false false p q = refl
 
 -- the digits of a table's used rows, by their places
-rows-by-place : (a : Activation) → a .rows ≤ length (a .lines) → rowsOf a ≡ tabulate (a .rows) (λ k. tabulate (min (a .cycles) 256) (bitAt (lineIn (a .lines) k)))
+pub rows-by-place : (a : Activation) → a .rows ≤ length (a .lines) → rowsOf a ≡ tabulate (a .rows) (λ k. tabulate (min (a .cycles) 256) (bitAt (lineIn (a .lines) k)))
 rows-by-place a h =
     let digits : Line → List Bool = λ l. tabulate (min (a .cycles) 256) (bitAt l) in
     let l : length (take (a .rows) (a .lines)) ≡ a .rows = length-take-le (a .rows) (a .lines) h in
