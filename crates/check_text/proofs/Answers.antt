@@ -1,4 +1,4 @@
--- The text of `check_sheet_file` by its cases. Assumes nothing.
+-- The text of `check_sheet` by its cases. Assumes nothing.
 use Prim.Native.Nat.{ℕ}
 use mathlib.Core.Path.{_≡_, refl, subst⁻¹}
 use mathlib.Core.Bool.{true, false, _&&_}

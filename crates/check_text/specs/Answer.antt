@@ -1,4 +1,4 @@
--- The text of `check_sheet_file` for three files. Assumes nothing.
+-- The text of `check_sheet` for three files. Assumes nothing.
 use Prim.Native.Nat.{ℕ}
 use mathlib.Core.Path.{_≡_}
 use mathlib.Core.List.{List}

@@ -1,4 +1,4 @@
--- What program `check_sheet_file` prints for a finding (01, "Monitors"). Assumes nothing.
+-- What program `check_sheet` prints for a finding (01, "Monitors"). Assumes nothing.
 use Prim.Native.Nat.{ℕ, _<_}
 use mathlib.Core.List.{List, []}
 use Rattle.tables.specs.Bytes.{bytes}

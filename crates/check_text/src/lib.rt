@@ -1,4 +1,4 @@
-// The text that program `check_sheet_file` prints, from the bytes of its three files.
+// The text that program `check_sheet` prints, from the bytes of its three files.
 use normal_form::sign::Sign;
 use tables::refusal::Outcome;
 use tables::refusal::Reason;
@@ -78,7 +78,7 @@ fn put_text(buf: &mut [u8], rule: &[u8], take: &[u8], sheet: &[u8]) -> usize
     }
 }
 
-// SERVICE: the text of `check_sheet_file` for the bytes of a rule file, of a take file and of a sheet file, written whole or not at all.
+// SERVICE: the text of `check_sheet` for the bytes of a rule file, of a take file and of a sheet file, written whole or not at all.
 pub fn check(rule: &[u8], take: &[u8], sheet: &[u8], buf: &mut [u8]) -> Bytes
     ensures { λ r. ⌜ Prints (now (rule .entry)) (now (take .entry)) (now (sheet .entry)) (now (buf .entry)) (now (buf .exit)) r ⌝ }
 {
