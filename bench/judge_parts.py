@@ -16,7 +16,7 @@ TARGET = os.path.join(os.path.dirname(os.path.abspath(__file__)), '..', 'target'
 SIZES = [(64, 256), (32, 256), (16, 256), (64, 128), (64, 64), (32, 128), (16, 64)]
 PROGRAMS = {
     'bin/judge': ['take_file::take::read_cycles', 'normal_form::normal_form', 'judging::root_true'],
-    'bench-judge': ['judge::take::read_take', 'judge::rule::normal', 'judge::judging::root_holds'],
+    'bench-judge': ['judge::take::read_take', 'judge::rule::normal', 'judge::truth::truths'],
 }
 
 

@@ -12,6 +12,7 @@ mod judging;
 mod reading;
 mod rule;
 mod take;
+mod truth;
 
 use std::cell::RefCell;
 use std::hint::black_box;

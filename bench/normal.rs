@@ -5,14 +5,13 @@
 mod reading;
 mod rule;
 
-use reading::Fault;
 use std::io::Write;
 
 fn main() {
     let file = std::fs::read("rule.txt").unwrap_or_default();
     let mut out = Vec::new();
     match rule::read_rule(&file) {
-        Err(Fault { reason, line }) => write!(out, "refused={reason}\nfile=1\nline={line}\n").unwrap(),
+        Err(fault) => out.extend(fault.of(1).text().bytes()),
         Ok(rule) => {
             let rows = rule::normal(&rule.rows, false);
             write!(out, "format=1\nsignals={}\nrows={}\n", rule.signals, rows.len()).unwrap();

@@ -8,6 +8,28 @@ pub struct Fault {
     pub line: usize,
 }
 
+impl Fault {
+    /// The same as a refusal: file 1 is the rule, 2 the take, 3 the sheet.
+    pub fn of(self, file: u32) -> Refusal {
+        Refusal { reason: self.reason, file, line: self.line }
+    }
+}
+
+/// Why a call is turned back. File and line are 0 where no file is at fault.
+#[derive(Debug, PartialEq)]
+pub struct Refusal {
+    pub reason: u32,
+    pub file: u32,
+    pub line: usize,
+}
+
+impl Refusal {
+    /// The three lines that a program prints.
+    pub fn text(&self) -> String {
+        format!("refused={}\nfile={}\nline={}\n", self.reason, self.file, self.line)
+    }
+}
+
 pub fn number(text: &str) -> Option<usize> {
     let digits = text.bytes().all(|b| b.is_ascii_digit());
     if text.is_empty() || text.len() > 5 || !digits || (text.len() > 1 && text.starts_with('0')) {

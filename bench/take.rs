@@ -1,5 +1,6 @@
 // Take files, for the plain-Rust programs of this folder.
-use crate::reading::{number, Fault, Lines};
+use crate::reading::{number, Fault, Lines, Refusal};
+use crate::rule::Rule;
 
 pub struct Take {
     pub signals: usize,
@@ -37,4 +38,9 @@ pub fn read_take(file: &[u8]) -> Result<Take, Fault> {
     }
     lines.end()?;
     Ok(Take { signals, cycles, loop_at, digits })
+}
+
+/// A rule and a take go together when they have equal `signals`.
+pub fn go_together(rule: &Rule, take: &Take) -> Result<(), Refusal> {
+    if rule.signals == take.signals { Ok(()) } else { Err(Refusal { reason: 7, file: 0, line: 0 }) }
 }
