@@ -2,11 +2,12 @@
 // A looped take is run without end, an open one is read strongly, where a row under a negation is taken as its partner.
 use crate::rule::{Kind, Row, Rule};
 use crate::take::Take;
-use std::collections::{HashMap, HashSet};
+use std::collections::{BTreeSet, HashMap};
 
-/// How many rows the normal form has: the rows other than `not` that the root reaches, once for each sign.
-pub fn rows_reached(rule: &Rule) -> usize {
-    let mut seen = HashSet::new();
+/// The rows of the normal form, as a row and whether it is negated: those other than `not` that the root reaches, once for each
+/// sign, in rising order, plain before negated.
+pub fn rows_reached(rule: &Rule) -> Vec<(usize, bool)> {
+    let mut seen = BTreeSet::new();
     let mut todo = vec![(rule.rows.len(), false)];
     while let Some((k, negated)) = todo.pop() {
         if seen.insert((k, negated)) {
@@ -14,21 +15,33 @@ pub fn rows_reached(rule: &Rule) -> usize {
             todo.extend(row.operands().iter().map(|&n| (n, negated != (row.kind == Kind::Not))));
         }
     }
-    seen.iter().filter(|(k, _)| rule.rows[k - 1].kind != Kind::Not).count()
+    seen.into_iter().filter(|(k, _)| rule.rows[k - 1].kind != Kind::Not).collect()
 }
 
-pub fn verdict(rule: &Rule, take: &Take) -> &'static str {
-    let root = rule.rows.len();
+/// Whether a row, plain or negated, is true at a cycle.
+pub fn truth<'a>(rule: &'a Rule, take: &'a Take) -> Box<dyn FnMut(usize, bool, usize) -> bool + 'a> {
     match take.loop_at {
         Some(start) => {
-            if (Endless { rule, take, start, known: HashMap::new() }).holds(root, 0) { "holds" } else { "breaks" }
+            let mut endless = Endless { rule, take, start, known: HashMap::new() };
+            Box::new(move |k, negated, i| endless.holds(k, i) != negated)
         }
         None => {
             let mut strong = Strong { rule, take, known: HashMap::new() };
-            let (kept, broken) = (strong.holds(root, false, 0), strong.holds(root, true, 0));
-            assert!(!(kept && broken));
-            if kept { "kept" } else if broken { "broken" } else { "open" }
+            Box::new(move |k, negated, i| strong.holds(k, negated, i))
         }
+    }
+}
+
+pub fn verdict(rule: &Rule, take: &Take) -> &'static str {
+    let mut truth = truth(rule, take);
+    let root = rule.rows.len();
+    match (take.loop_at, truth(root, false, 0), truth(root, true, 0)) {
+        (Some(_), true, false) => "holds",
+        (Some(_), false, true) => "breaks",
+        (None, true, false) => "kept",
+        (None, false, true) => "broken",
+        (None, false, false) => "open",
+        _ => panic!("a rule and its negation"),
     }
 }
 

@@ -23,7 +23,7 @@ use rule::Rule;
 use take::Take;
 
 fn judge_by_definition(rule: &Rule, take: &Take) -> (usize, &'static str) {
-    (definition::rows_reached(rule), definition::verdict(rule, take))
+    (definition::rows_reached(rule).len(), definition::verdict(rule, take))
 }
 
 fn main() {

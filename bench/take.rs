@@ -6,14 +6,20 @@ pub struct Take {
     pub signals: usize,
     pub cycles: usize,
     pub loop_at: Option<usize>,
-    digits: Vec<bool>,
+    bits: Vec<bool>,
 }
 
 impl Take {
     /// Signal s (from 1) at cycle i.
     pub fn signal(&self, s: usize, i: usize) -> bool {
-        self.digits[i * self.signals + s - 1]
+        self.bits[i * self.signals + s - 1]
     }
+}
+
+/// The digits of a value that must have so many.
+pub fn digits(value: &str, count: usize) -> Option<impl Iterator<Item = bool> + '_> {
+    let form = value.len() == count && value.bytes().all(|b| matches!(b, b'0' | b'1'));
+    if form { Some(value.bytes().map(|b| b == b'1')) } else { None }
 }
 
 pub fn read_take(file: &[u8]) -> Result<Take, Fault> {
@@ -28,16 +34,13 @@ pub fn read_take(file: &[u8]) -> Result<Take, Fault> {
     if loop_at.is_some_and(|at| at >= cycles) {
         return Err(lines.fault(6));
     }
-    let mut digits = Vec::with_capacity(cycles * signals);
+    let mut bits = Vec::with_capacity(cycles * signals);
     for i in 0..cycles {
-        let value = lines.numbered('c', i)?.as_bytes();
-        if value.len() != signals || value.iter().any(|b| !matches!(b, b'0' | b'1')) {
-            return Err(lines.fault(2));
-        }
-        digits.extend(value.iter().map(|&b| b == b'1'));
+        let value = lines.numbered('c', i)?;
+        bits.extend(digits(value, signals).ok_or(lines.fault(2))?);
     }
     lines.end()?;
-    Ok(Take { signals, cycles, loop_at, digits })
+    Ok(Take { signals, cycles, loop_at, bits })
 }
 
 /// A rule and a take go together when they have equal `signals`.

@@ -1,0 +1,52 @@
+// The work of the program `sheet`, for the plain-Rust programs of this folder.
+use crate::definition;
+use crate::reading::Refusal;
+use crate::rule::{normal, read_rule, Rule};
+use crate::take::{go_together, read_take, Take};
+use crate::truth::truths;
+
+/// The activators of the sheet, a line of cycles for each row, one behind the other; none where the rule is not satisfied or not kept.
+pub fn make(rule: &Rule, take: &Take) -> Option<Vec<bool>> {
+    let rows = normal(&rule.rows, false);
+    let table = truths(&rows, take);
+    if table[(rows.len() - 1) * take.cycles] { Some(table) } else { None }
+}
+
+/// The same by the quantifiers of 01's meaning, on the rule as it is written; slow.
+pub fn make_by_definition(rule: &Rule, take: &Take) -> Option<Vec<bool>> {
+    if !matches!(definition::verdict(rule, take), "holds" | "kept") {
+        return None;
+    }
+    let mut truth = definition::truth(rule, take);
+    let mut table = Vec::new();
+    for (k, negated) in definition::rows_reached(rule) {
+        table.extend((0..take.cycles).map(|i| truth(k, negated, i)));
+    }
+    Some(table)
+}
+
+/// A way of making sheets.
+pub type Make = fn(&Rule, &Take) -> Option<Vec<bool>>;
+
+/// The sheet file of these activators.
+fn sheet_text(active: &[bool], cycles: usize) -> String {
+    let mut text = format!("format=1\nrows={}\ncycles={cycles}\n", active.len() / cycles);
+    for (k, line) in active.chunks(cycles).enumerate() {
+        text += &format!("z{}=", k + 1);
+        text.extend(line.iter().map(|&bit| if bit { '1' } else { '0' }));
+        text.push('\n');
+    }
+    text
+}
+
+fn made(rule: &[u8], take: &[u8], make: Make) -> Result<String, Refusal> {
+    let rule = read_rule(rule).map_err(|fault| fault.of(1))?;
+    let take = read_take(take).map_err(|fault| fault.of(2))?;
+    go_together(&rule, &take)?;
+    Ok(make(&rule, &take).map_or("none\n".to_string(), |active| sheet_text(&active, take.cycles)))
+}
+
+/// What the program `sheet` prints for these two files.
+pub fn answer(rule: &[u8], take: &[u8], make: Make) -> String {
+    made(rule, take, make).unwrap_or_else(|refusal| refusal.text())
+}
