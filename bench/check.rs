@@ -1,5 +1,5 @@
-// Checks activator sheets, in plain Rust, for comparison with the program `check`: reads rule.txt, take.txt and sheet.txt, prints the
-// finding or the refusal.
+// Checks activator sheets, in plain Rust, for comparison with the program `check`: reads rule.txt, take.txt and sheet.txt, and
+// prints the finding or the refusal.
 // Build: rustc -O -o target/bench-check bench/check.rs
 // Run:   target/bench-check [--definition] [--repeat N] [RULE TAKE SHEET]
 //   --definition  writes many rounds out and looks at them (unrolled.rs); slow, for checking the usual way

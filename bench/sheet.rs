@@ -1,5 +1,5 @@
-// Makes activator sheets, in plain Rust, for comparison with the program `sheet`: reads rule.txt and take.txt, prints the sheet file,
-// or `none`, or the refusal.
+// Makes activator sheets, in plain Rust, for comparison with the program `sheet`: reads rule.txt and take.txt, and prints the sheet
+// file, or `none`, or the refusal.
 // Build: rustc -O -o target/bench-sheet bench/sheet.rs
 // Run:   target/bench-sheet [--definition] [--repeat N] [RULE TAKE]
 //   --definition  asks each row at each cycle by the quantifiers of 01's meaning (definition.rs); slow, for checking the usual way

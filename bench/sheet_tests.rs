@@ -1,5 +1,5 @@
-// Sheets held to the definitions: every sheet of small rules and takes, made, changed and random sheets of larger ones, and the step
-// service along them.
+// Sheets held to the definitions: every sheet of small rules and takes; made, changed and random sheets of larger ones; and the
+// step service along them.
 use crate::checking::{answer, check, Finding};
 use crate::definition::verdict;
 use crate::making;

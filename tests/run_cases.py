@@ -11,13 +11,14 @@ import sys
 import tempfile
 
 CRATES = os.path.join(os.path.dirname(os.path.abspath(__file__)), '..', 'crates')
-PLACES = {crate: ['rule.txt', 'take.txt', 'sheet.txt'][:n] for crate, n in (('judge_files', 2), ('sheet_files', 2), ('check_files', 3))}
+PLACES = ['rule.txt', 'take.txt', 'sheet.txt']
+FILES = {'judge_files': 2, 'sheet_files': 2, 'check_files': 3}
 
 
 def main():
-    if len(sys.argv) < 3 or sys.argv[1] not in PLACES:
+    if len(sys.argv) < 3 or sys.argv[1] not in FILES:
         sys.exit(__doc__)
-    here, places = os.path.join(CRATES, sys.argv[1]), PLACES[sys.argv[1]]
+    here, places = os.path.join(CRATES, sys.argv[1]), PLACES[:FILES[sys.argv[1]]]
     program = [os.path.abspath(sys.argv[2])] + sys.argv[3:]
     with open(os.path.join(here, 'args')) as f:
         names = f.read().splitlines()

@@ -1,0 +1,38 @@
+// Tries all sheets of small rules and takes, in plain Rust, for comparison with the program `try_sheets`: prints of each pair of a
+// rule file and a take file the names, the verdict, and how many sheets pass.
+// Build: rustc -O -o target/bench-try-sheets bench/try_sheets.rs
+// Run:   cd crates/try_sheets/data && xargs ../../../target/bench-try-sheets < ../args | cmp - ../stdout
+#![forbid(unsafe_code)]
+#![allow(dead_code)] // of its modules it needs a part
+
+mod checking;
+mod definition;
+mod monitors;
+mod reading;
+mod rule;
+mod sheets;
+mod take;
+
+use checking::{check, Finding};
+use sheets::Sheet;
+
+/// Counts the passing ones among all sheets. A sheet's digits are those of its number.
+fn passing(rule: &rule::Rule, take: &take::Take) -> usize {
+    let rows = rule::normal(&rule.rows, false);
+    let size = rows.len() * take.cycles;
+    let sheets = (0..1usize << size).map(|number| (0..size).map(|place| number >> place & 1 == 1).collect());
+    sheets.filter(|bits: &Vec<bool>| {
+        let sheet = Sheet { rows: rows.len(), cycles: take.cycles, bits: bits.clone() };
+        check(&rows, take, &sheet) == Finding::Passes
+    }).count()
+}
+
+fn main() {
+    let names: Vec<String> = std::env::args().skip(1).collect();
+    for pair in names.chunks(2) {
+        let file = |i: usize| std::fs::read(&pair[i]).unwrap();
+        let (rule, take) = (rule::read_rule(&file(0)).unwrap(), take::read_take(&file(1)).unwrap());
+        let verdict = definition::verdict(&rule, &take);
+        println!("{} {}\nverdict={verdict}\npassing={}", pair[0], pair[1], passing(&rule, &take));
+    }
+}
