@@ -109,4 +109,5 @@ def main():
     print(f'{given.runs} runs with seed {given.seed}, no difference')
 
 
-main()
+if __name__ == '__main__':
+    main()
