@@ -3,7 +3,7 @@
 and holds their outputs together. It also holds that a made sheet passes, and that no sheet passes where `none` is answered.
 
     rt check sheet check && rustc -O -o target/bench-sheet bench/sheet.rs && rustc -O -o target/bench-check bench/check.rs
-    bench/compare_sheets.py [--runs N] [--seed S] [--small] target/bin/sheet target/bin/check target/bench-sheet target/bench-check
+    bench/compare_sheets.py [--runs N] [--seed S] [--small] target/bin/sheet target/bin/check_sheet target/bench-sheet target/bench-check
 
 A program may have words behind it, as 'target/bench-check --definition', which is slow on large takes. The files of a run that
 differs are left in target/different.
