@@ -29,7 +29,7 @@ pub enum MakerAnswer {
 }
 
 // The rows' truth, as a sheet.
-fn truth_sheet(formula: Formula, trace: Trace) -> Activation
+pub fn truth_sheet(formula: Formula, trace: Trace) -> Activation
     requires { ⌜ FormulaInRange formula × TraceInRange trace ⌝ }
     ensures { λ r. ⌜ IsMade (normalForm formula Plain) trace r ⌝ }
 {

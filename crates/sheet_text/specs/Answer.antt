@@ -1,0 +1,50 @@
+-- The text of `sheet` for two files. Assumes nothing.
+use Prim.Native.Nat.{ℕ}
+use mathlib.Core.Path.{_≡_}
+use mathlib.Core.Bool.{Bool, true, false}
+use mathlib.Core.List.{List, [], _∷_, _++_}
+use lib.Dec.{eqb}
+use Rattle.tables.specs.Bytes.{bytes}
+use Rattle.tables.specs.declared.refusal.Reason.the-variants.{SignalsDiffer}
+use Rattle.tables.specs.declared.row.Formula.{Formula}
+use Rattle.tables.specs.declared.trace.Activation.{Activation}
+use Rattle.tables.specs.declared.trace.Trace.{Trace}
+use Rattle.text.specs.Result.{Result}
+use Rattle.text.specs.Result.Result.{accepted, refused}
+use Rattle.rule_file.specs.Rule.{parseRule}
+use Rattle.take_file.specs.Take.{parseTake}
+use Rattle.sheet_file.specs.Written.{writtenSheet}
+use Rattle.normal_form.specs.declared.sign.Sign.the-variants.{Plain}
+use Rattle.normal_form.specs.Numbering.{normalForm}
+use Rattle.writing.specs.declared.answer.Bytes.{Bytes}
+use Rattle.writing.specs.Answer.{writtenAnswer}
+use Rattle.writing.specs.Lent.{overlaid}
+use Rattle.writing.specs.Refusal.{refusalText}
+use Rattle.sheet_maker.specs.Made.{Satisfied, IsMade}
+
+-- the line `none`; 10 is the line feed
+abbrev pub noneText : List ℕ
+noneText = bytes "none" ++ (10 ∷ [])
+
+-- the file of the sheet made; "if the rule is not satisfied or not kept, the answer is `none`"
+pub data IsMadeText (f : Formula) (t : Trace) (text : List ℕ) : Type 0 where
+  sheet : Satisfied f t → (a : Activation) → IsMade (normalForm f Plain) t a → text ≡ writtenSheet a → IsMadeText f t text
+  none : ¬ Satisfied f t → text ≡ noneText → IsMadeText f t text
+
+-- 7: "Rule and take differ in `signals`", "file and line 0"
+abbrev pub IsPairText : Bool → Formula → Trace → List ℕ → Type 0
+IsPairText true f t text = IsMadeText f t text
+IsPairText false f t text = text ≡ refusalText (record { reason = SignalsDiffer; file = 0; line = 0 })
+
+-- "Files go rule, take"; "file (1 rule, 2 take, 3 sheet)"
+abbrev pub IsText : Result Formula → Result Trace → List ℕ → Type 0
+IsText (refused e n) take text = text ≡ refusalText (record { reason = e; file = 1; line = n })
+IsText (accepted f) (refused e n) text = text ≡ refusalText (record { reason = e; file = 2; line = n })
+IsText (accepted f) (accepted t) text = IsPairText (eqb (f .signals) (t .signals)) f t text
+
+-- the text goes into the buffer whole, or nothing does
+pub record Prints (rule take before after : List ℕ) (answer : Bytes) : Type 0 where
+  pub text : List ℕ
+  pub is-text : IsText (parseRule rule) (parseTake take) text
+  pub answered : answer ≡ writtenAnswer text before
+  pub left : after ≡ overlaid text before

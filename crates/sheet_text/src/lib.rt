@@ -1,0 +1,74 @@
+// The text that program `sheet` prints, from the bytes of its two files.
+use tables::refusal::Outcome;
+use tables::refusal::Reason;
+use tables::refusal::Refusal;
+use tables::row::Formula;
+use tables::trace::Trace;
+use writing::answer::Bytes;
+ghost use mathlib.Core.List.{List};
+ghost use lib.Dec.{eqb};
+ghost use lib.ListN.{length};
+ghost use Prim.Native.Nat.{ℕ, _≤_};
+ghost use Rattle.rule_file.specs.Rule.{parseRule};
+ghost use Rattle.rule_file.specs.Valid.{InRange as FormulaInRange};
+ghost use Rattle.take_file.specs.Take.{parseTake};
+ghost use Rattle.take_file.specs.Valid.{InRange as TraceInRange};
+ghost use Rattle.writing.specs.Lent.{Wrote};
+ghost use Rattle.sheet_text.specs.Answer.{IsPairText, IsText, Prints};
+
+fn put_pair(buf: &mut [u8], formula: Formula, trace: Trace) -> usize
+    requires { ⌜ (33567 ≤ length (now buf)) × FormulaInRange formula × TraceInRange trace ⌝ }
+    ensures { λ r. ⌜ ((text : List ℕ) × IsPairText (eqb (formula .signals) (trace .signals)) formula trace text × Wrote (now (buf .entry)) 0 text (now (buf .exit)) r) ⌝ }
+{
+    if formula.signals != trace.signals {
+        let refusal = Refusal {
+            reason: Reason::SignalsDiffer,
+            file: 0,
+            line: 0,
+        };
+        return writing::line::put_refusal(buf, 0, refusal);
+    }
+    let sheet = sheet_maker::truth_sheet(formula, trace);
+    let lines = sheet.lines;
+    let root = sheet.rows as usize - 1;
+    if lines::line::bit(lines[root], 0) {
+        return sheet_maker::sheet::put_sheet(buf, sheet);
+    }
+    writing::put::put(buf, 0, b"none\n")
+}
+
+fn put_text(buf: &mut [u8], rule: &[u8], take: &[u8]) -> usize
+    requires { ⌜ 33567 ≤ length (now buf) ⌝ }
+    ensures { λ r. ⌜ ((text : List ℕ) × IsText (parseRule (now (rule .entry))) (parseTake (now (take .entry))) text × Wrote (now (buf .entry)) 0 text (now (buf .exit)) r) ⌝ }
+{
+    let first = rule_file::rule::read_rule(rule);
+    let outcome = first.outcome;
+    match outcome {
+        Outcome::Refused(refusal) => writing::line::put_refusal(buf, 0, refusal),
+        Outcome::Accepted => {
+            let second = take_file::take::read_take(take);
+            let other = second.outcome;
+            match other {
+                Outcome::Refused(refusal) => writing::line::put_refusal(buf, 0, refusal),
+                Outcome::Accepted => put_pair(buf, first.formula, second.trace),
+            }
+        }
+    }
+}
+
+// SERVICE: the text of `sheet` for the bytes of a rule file and of a take file, written whole or not at all.
+pub fn sheet(rule: &[u8], take: &[u8], buf: &mut [u8]) -> Bytes
+    ensures { λ r. ⌜ Prints (now (rule .entry)) (now (take .entry)) (now (buf .entry)) (now (buf .exit)) r ⌝ }
+{
+    let mut space = [0u8; 33567];
+    let n = put_text(&mut space, rule, take);
+    if writing::put::deliver(&space[..n], buf) {
+        Bytes::Count(n)
+    } else {
+        Bytes::Refused(Refusal {
+            reason: Reason::ShortBuffer,
+            file: 0,
+            line: 0,
+        })
+    }
+}
