@@ -21,7 +21,7 @@ use Rattle.normal_form.specs.Form.{InNormalForm}
 use Rattle.normal_form.specs.Numbering.{normalForm}
 use Rattle.normal_form.proofs.Demand.{satisfied-alike}
 use Rattle.truth.specs.Truth.{lineIn, TrueIn, TrueAt, Filled}
-use Rattle.truth.proofs.Passes.{shown-bit}
+use Rattle.row_lines.proofs.Passes.{shown-bit}
 use Rattle.judging.specs.declared.verdict.Verdict.the-variants.{Holds, Breaks, Kept, Broken, Open}
 use Rattle.judging.specs.Verdict.{IsKept, IsBroken, VerdictOf}
 use Rattle.judging.proofs.Verdicts.{kept-not-broken, holds-verdict, breaks-verdict, kept-verdict, broken-verdict, open-verdict}

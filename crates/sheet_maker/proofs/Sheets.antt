@@ -25,7 +25,7 @@ use Rattle.normal_form.specs.Numbering.{normalForm}
 use Rattle.normal_form.proofs.Ranges.{form-normal}
 use Rattle.normal_form.proofs.Demand.{satisfied-alike}
 use Rattle.truth.specs.Truth.{lineIn, TrueIn, TrueAt, Filled}
-use Rattle.truth.proofs.Passes.{shown-bit}
+use Rattle.row_lines.proofs.Passes.{shown-bit}
 use Rattle.monitors.specs.Sheet.{activatorAt, IsRow}
 use Rattle.sheet_maker.specs.Made.{SatisfiedIn, Satisfied, IsMade}
 

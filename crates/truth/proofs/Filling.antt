@@ -33,10 +33,10 @@ use Rattle.meaning.proofs.Prefix.{prefix, toEnd, prefix-truth}
 use Rattle.normal_form.specs.Form.{InNormalForm}
 use Rattle.normal_form.proofs.FormTables.{form-ordered, form-positive}
 use Rattle.lines.specs.Word.{Ends}
-use Rattle.truth.specs.Run.{Shows}
-use Rattle.truth.specs.Pass.{rowPass}
+use Rattle.row_lines.specs.Run.{Shows}
+use Rattle.row_lines.specs.Pass.{rowPass}
 use Rattle.truth.specs.Truth.{lineIn, TrueIn, Tells}
-use Rattle.truth.proofs.Passes.{cut, shows-alike}
+use Rattle.row_lines.proofs.Passes.{cut, shows-alike}
 use Rattle.truth.proofs.Matches.{row-lasso, row-prefix}
 
 module _ (n : ℕ) (ending : Ending) (signals : ℕ → ℕ → Bool) (t : Table) (m : ℕ) where

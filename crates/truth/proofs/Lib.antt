@@ -1,5 +1,2 @@
-pub mod Passes
-pub mod Nexts
-pub mod RowLines
 pub mod Matches
 pub mod Filling

@@ -23,7 +23,7 @@ use Rattle.meaning.proofs.PatternBits.{connectiveBit, keepBits, goalBits, patte
 use Rattle.meaning.proofs.Lasso.{twoRounds, two-passes, lasso}
 use Rattle.meaning.proofs.Prefix.{prefix, toEnd}
 use Rattle.lines.specs.Word.{Ends}
-use Rattle.truth.specs.Pass.{untilPass, passBit, rowPass}
+use Rattle.row_lines.specs.Pass.{untilPass, passBit, rowPass}
 
 -- ---- on a lasso
 

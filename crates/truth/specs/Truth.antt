@@ -15,7 +15,7 @@ use Rattle.meaning.specs.Reading.{classical}
 use Rattle.meaning.specs.Trace.{signalAt, unrolled}
 use Rattle.meaning.specs.Satisfaction.{tableOf, RowTrue}
 use Rattle.meaning.specs.Strong.{RowStronglyTrue}
-use Rattle.truth.specs.Run.{Shows}
+use Rattle.row_lines.specs.Run.{Shows}
 
 -- line k of a list of lines; what a place behind it would hold
 abbrev pub lineIn : List Line → ℕ → Line

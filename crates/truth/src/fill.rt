@@ -1,6 +1,6 @@
 // The lines of all rows of a normal form over a recording. This is the one place where the truth of rows is computed.
-use crate::Run;
-use crate::row;
+use row_lines::Run;
+use row_lines::row;
 use tables::row::NormalForm;
 use tables::row::Row;
 use tables::trace::Ending;
@@ -12,8 +12,8 @@ ghost use Prim.Native.Nat.{ℕ, _-_, _≤_};
 ghost use Rattle.meaning.proofs.Rows.{Each, EachSignal};
 ghost use Rattle.normal_form.specs.Form.{InNormalForm};
 ghost use Rattle.take_file.specs.Valid.{Below as LoopBelow, InRange};
-ghost use Rattle.truth.specs.Run.{RunOf, Shows};
-ghost use Rattle.truth.specs.Pass.{rowPass};
+ghost use Rattle.row_lines.specs.Run.{RunOf, Shows};
+ghost use Rattle.row_lines.specs.Pass.{rowPass};
 ghost use Rattle.truth.specs.Truth.{Filled, bitIn, lineIn};
 
 // A line for each row: line k is that of row k + 1.

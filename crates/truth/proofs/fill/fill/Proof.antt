@@ -8,7 +8,7 @@ use mathlib.Core.Path.{_≡_, refl, sym, ap, _∙_, subst}
 use Prim.Native.Nat.{ℕ, suc, _-_}
 use native.Mathlib.Omega.{arith}
 use Rattle.meaning.specs.Satisfaction.{tableOf}
-use Rattle.truth.specs.Run.{RunOf}
+use Rattle.row_lines.specs.Run.{RunOf}
 use Rattle.truth.specs.Truth.{bitIn}
 use Rattle.truth.proofs.Filling.{FilledTo, fill-none, fill-next, filled-tells}
 use Rattle.truth.proofs.fill.fill.Statement.{statement}

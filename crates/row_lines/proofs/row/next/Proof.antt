@@ -1,11 +1,11 @@
 use mathlib.Core.Path.{sym, _∙_}
 use Prim.Native.Nat.{suc}
 use lib.Dec.{eqb}
-use Rattle.truth.proofs.Passes.{cut, cut-ends}
-use Rattle.truth.proofs.Nexts.{behind-shown, later-on, later-off}
+use Rattle.row_lines.proofs.Passes.{cut, cut-ends}
+use Rattle.row_lines.proofs.Nexts.{behind-shown, later-on, later-off}
 use borrow.Author.Needs.{needs}
-use Rattle.truth.proofs.row.next.Statement.{statement}
-use Rattle.truth.proofs.row.next.Tie as tie
+use Rattle.row_lines.proofs.row.next.Statement.{statement}
+use Rattle.row_lines.proofs.row.next.Tie as tie
 
 returns : tie.Need-returns
 returns c = λ n q run p. c .either .ensures (λ i. cut n q (suc i)) (λ i. eqb (suc i) n) (c .before .before .before .next .ensures (cut n q) (cut-ends n q 256 (run .most)) p) (run .last-cycle) ∙ later-on n q _ (sym (behind-shown n _ q (c .before .before .before .before .args .run .ending) (run .most) p (run .loop-within)) ∙ sym (c .before .before .entered .ensures) ∙ c .before .if1 .taken)

@@ -7,9 +7,9 @@ use Rattle.tables.specs.Bit.{bitAt, lineOf}
 use Rattle.tables.specs.declared.trace.Line.{Line}
 use Rattle.tables.proofs.Bits.{line-ext}
 use Rattle.lines.proofs.Masks.{known-masked}
-use Rattle.truth.specs.Run.{Shows}
-use Rattle.truth.proofs.Passes.{cut, cut-same, shows-alike}
-use Rattle.truth.proofs.Nexts.{and-on, and-off}
+use Rattle.row_lines.specs.Run.{Shows}
+use Rattle.row_lines.proofs.Passes.{cut, cut-same, shows-alike}
+use Rattle.row_lines.proofs.Nexts.{and-on, and-off}
 
 module _ (n : ℕ) where
   -- every cycle, and none

@@ -1,11 +1,11 @@
 use mathlib.Core.Path.{_≡_, sym, _∙_}
 use lib.Dec.{ltb}
 use Rattle.tables.specs.Bit.{bitAt}
-use Rattle.truth.proofs.Passes.{cut}
-use Rattle.truth.proofs.RowLines.{signal-shown, not-shown}
+use Rattle.row_lines.proofs.Passes.{cut}
+use Rattle.row_lines.proofs.RowLines.{signal-shown, not-shown}
 use borrow.Author.Needs.{needs}
-use Rattle.truth.proofs.row.signal.Statement.{statement}
-use Rattle.truth.proofs.row.signal.Tie as tie
+use Rattle.row_lines.proofs.row.signal.Statement.{statement}
+use Rattle.row_lines.proofs.row.signal.Tie as tie
 
 returns : tie.Need-returns
 returns c = λ n run. rw (c .enum-told .given .1) (signal-shown n (c .before .before .before .args .line) _ (c .before .before .both .ensures (λ i. ltb i n) (run .all-cycles)))

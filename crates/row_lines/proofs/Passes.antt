@@ -14,8 +14,8 @@ use Rattle.tables.proofs.Bits.{bit-of-line, line-ext}
 use Rattle.meaning.proofs.Streams.{approximant, approximant-local}
 use Rattle.lines.specs.Word.{Ends}
 use Rattle.take_file.specs.Valid.{Below as LoopBelow}
-use Rattle.truth.specs.Run.{Shows, bitBehind, untilBehind}
-use Rattle.truth.specs.Pass.{untilPass}
+use Rattle.row_lines.specs.Run.{Shows, bitBehind, untilBehind}
+use Rattle.row_lines.specs.Pass.{untilPass}
 
 -- f at the first n cycles alone
 abbrev pub cut : ℕ → (ℕ → Bool) → ℕ → Bool

@@ -9,7 +9,7 @@ use Rattle.tables.specs.declared.trace.Ending.{Ending}
 use Rattle.tables.specs.declared.trace.Ending.the-variants.{Open, Loop}
 use Rattle.take_file.specs.Valid.{Below as LoopBelow}
 use Rattle.meaning.proofs.Streams.{approximant}
-use Rattle.truth.specs.declared.Run.{Run}
+use Rattle.row_lines.specs.declared.Run.{Run}
 
 -- the run of a recording of n cycles
 pub record RunOf (n : ℕ) (run : Run) : Type 0 where

@@ -1,11 +1,11 @@
 use mathlib.Core.Path.{_≡_, sym, subst⁻¹, _∙_}
 use mathlib.Core.Bool.{true, false}
 use lib.Dec.{ltb}
-use Rattle.truth.proofs.Passes.{cut}
-use Rattle.truth.proofs.RowLines.{all-shown, none-shown, not-shown}
+use Rattle.row_lines.proofs.Passes.{cut}
+use Rattle.row_lines.proofs.RowLines.{all-shown, none-shown, not-shown}
 use borrow.Author.Needs.{needs}
-use Rattle.truth.proofs.row.unary.Statement.{statement}
-use Rattle.truth.proofs.row.unary.Tie as tie
+use Rattle.row_lines.proofs.row.unary.Statement.{statement}
+use Rattle.row_lines.proofs.row.unary.Tie as tie
 
 returns : tie.Need-returns
 returns c = λ n q run s. rw (c .before .enum-told .given .1) (c .without .ensures (λ i. ltb i n) (cut n q) (run .all-cycles) s ∙ not-shown n q)

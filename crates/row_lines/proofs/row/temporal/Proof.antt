@@ -1,8 +1,8 @@
 use mathlib.Core.Path.{_∙_}
-use Rattle.truth.proofs.Passes.{cut, cut-ends, cut-pass, open-pass, loop-pass}
+use Rattle.row_lines.proofs.Passes.{cut, cut-ends, cut-pass, open-pass, loop-pass}
 use borrow.Author.Needs.{needs}
-use Rattle.truth.proofs.row.temporal.Statement.{statement}
-use Rattle.truth.proofs.row.temporal.Tie as tie
+use Rattle.row_lines.proofs.row.temporal.Statement.{statement}
+use Rattle.row_lines.proofs.row.temporal.Tie as tie
 
 bit-requires : tie.Need-bit-requires
 bit-requires c κs = rw (c .before .before .ending .given .1) at (c .before .before .before .before .pre)

@@ -1,9 +1,9 @@
 use mathlib.Core.Path.{sym, ap, _∙_}
 use Rattle.tables.specs.Bit.{bitAt}
-use Rattle.truth.specs.Run.{bitBehind}
+use Rattle.row_lines.specs.Run.{bitBehind}
 use borrow.Author.Needs.{needs}
-use Rattle.truth.proofs.row.entered.Statement.{statement}
-use Rattle.truth.proofs.row.entered.Tie as tie
+use Rattle.row_lines.proofs.row.entered.Statement.{statement}
+use Rattle.row_lines.proofs.row.entered.Tie as tie
 
 bit-requires : tie.Need-bit-requires
 bit-requires c κs = rw (c .before .ending .given .1) at (c .before .before .before .pre)

@@ -1,10 +1,10 @@
 use mathlib.Core.Path.{_≡_, sym, _∙_}
 use mathlib.Core.Bool.{_&&_}
-use Rattle.truth.proofs.Passes.{cut}
-use Rattle.truth.proofs.RowLines.{either-shown, both-shown}
+use Rattle.row_lines.proofs.Passes.{cut}
+use Rattle.row_lines.proofs.RowLines.{either-shown, both-shown}
 use borrow.Author.Needs.{needs}
-use Rattle.truth.proofs.row.binary.Statement.{statement}
-use Rattle.truth.proofs.row.binary.Tie as tie
+use Rattle.row_lines.proofs.row.binary.Statement.{statement}
+use Rattle.row_lines.proofs.row.binary.Tie as tie
 
 returns : tie.Need-returns
 returns c = λ n p q run s t. rw (c .before .enum-told .given .1) (c .both .ensures (cut n q) t ∙ both-shown n p q _ s)

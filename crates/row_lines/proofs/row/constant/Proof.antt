@@ -1,8 +1,8 @@
 use mathlib.Core.Path.{_≡_, sym, _∙_}
-use Rattle.truth.proofs.RowLines.{all-shown, none-shown}
+use Rattle.row_lines.proofs.RowLines.{all-shown, none-shown}
 use borrow.Author.Needs.{needs}
-use Rattle.truth.proofs.row.constant.Statement.{statement}
-use Rattle.truth.proofs.row.constant.Tie as tie
+use Rattle.row_lines.proofs.row.constant.Statement.{statement}
+use Rattle.row_lines.proofs.row.constant.Tie as tie
 
 returns : tie.Need-returns
 returns c = λ n run. rw (c .before .enum-told .given .1) (all-shown n _ (run .all-cycles))

@@ -8,7 +8,7 @@ use Rattle.tables.specs.declared.trace.Ending.{Ending}
 use Rattle.meaning.proofs.Streams.{approximant}
 use Rattle.meaning.proofs.Pattern.{Pattern, Pattern.now, Pattern.next, Pattern.connective, Pattern.temporal, left, right, patternOf}
 use Rattle.meaning.proofs.PatternBits.{connectiveBit, keepBits, goalBits, operandBits}
-use Rattle.truth.specs.Run.{bitBehind, untilBehind}
+use Rattle.row_lines.specs.Run.{bitBehind, untilBehind}
 
 module _ (n : ℕ) (ending : Ending) where
   abbrev pub untilPass : (ℕ → Bool) → (ℕ → Bool) → Bool → ℕ → Bool

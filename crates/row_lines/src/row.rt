@@ -14,8 +14,8 @@ ghost use Rattle.meaning.proofs.Rows.{positive};
 ghost use Rattle.meaning.proofs.Pattern.{binaryPattern, constantBit, signalSign, unaryLeft, unaryPattern};
 ghost use Rattle.meaning.proofs.PatternBits.{signedBit};
 ghost use Rattle.take_file.specs.Valid.{Below as LoopBelow};
-ghost use Rattle.truth.specs.Run.{RunOf, Shows, bitBehind};
-ghost use Rattle.truth.specs.Pass.{nextPass, passBit, untilPass};
+ghost use Rattle.row_lines.specs.Run.{RunOf, Shows, bitBehind};
+ghost use Rattle.row_lines.specs.Pass.{nextPass, passBit, untilPass};
 
 // Until (weak: or keep for ever). A lasso is gone over twice: what the first pass finds at the loop's cycle is what holds behind the
 // last one. One pass more would change nothing, since keep and goal repeat with the loop.
