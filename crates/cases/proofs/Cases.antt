@@ -12,7 +12,7 @@ use Rattle.text.specs.Count.{countForm}
 use Rattle.text.specs.Digits.{areDigits, digitsForm}
 use Rattle.text.specs.Body.{bodyLines}
 use Rattle.text.specs.Written.{decimalIn, decimal, writtenBody}
-use Rattle.rule_file.specs.Row.{kindNamed, formOf, rowForm, rowValue}
+use Rattle.rule_row.specs.Row.{kindNamed, formOf, rowForm, rowValue}
 use Rattle.rule_file.specs.Rule.{parseRule}
 use Rattle.rule_file.specs.Written.{writtenRule}
 use Rattle.take_file.specs.Ending.{endingValue}

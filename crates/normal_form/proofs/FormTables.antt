@@ -17,9 +17,9 @@ use Rattle.tables.specs.declared.row.RowPlace.{RowPlace}
 use Rattle.tables.specs.declared.row.NormalForm.{NormalForm}
 use Rattle.text.specs.Body.{EachAt}
 use Rattle.text.proofs.Elements.{ok-at}
-use Rattle.rule_file.specs.Row.{isSignal, inRange}
+use Rattle.rule_row.specs.Row.{isSignal, inRange}
 use Rattle.rule_file.specs.Rule.{inPlace, unused}
-use Rattle.rule_file.proofs.RowValues.{signal-most}
+use Rattle.rule_row.proofs.RowValues.{signal-most}
 use Rattle.meaning.specs.Satisfaction.{Table, tableOf}
 use Rattle.meaning.proofs.Rows.{Each, each-map, EachSignal, each-signal-map, Ordered, Positive}
 use Rattle.normal_form.specs.Operand.{rowIn, isNot}

@@ -23,7 +23,7 @@ use Rattle.tables.specs.declared.row.RowPlace.{RowPlace}
 use Rattle.tables.specs.declared.row.Formula.{Formula}
 use Rattle.text.proofs.Elements.{ok-at}
 use Rattle.text.proofs.Searching.{pick-both}
-use Rattle.rule_file.specs.Row.{isOperand, inRange}
+use Rattle.rule_row.specs.Row.{isOperand, inRange}
 use Rattle.rule_file.specs.Rule.{inPlace, unused}
 use Rattle.rule_file.specs.Valid.{InRange}
 use Rattle.rule_file.specs.Written.{rowsOf}

@@ -13,7 +13,7 @@ use Rattle.tables.specs.declared.row.RowPlace.{RowPlace}
 use Rattle.tables.specs.declared.row.Formula.{Formula}
 use Rattle.text.specs.Body.{EachAt}
 use Rattle.text.proofs.Elements.{all-ok}
-use Rattle.rule_file.specs.Row.{inRange}
+use Rattle.rule_row.specs.Row.{inRange}
 use Rattle.rule_file.specs.Rule.{inPlace, unused}
 use Rattle.rule_file.specs.Valid.{InRange}
 use Rattle.normal_form.specs.declared.sign.Sign.{Sign}

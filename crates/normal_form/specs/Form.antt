@@ -7,7 +7,7 @@ use Rattle.tables.specs.Used.{usedRows}
 use Rattle.tables.specs.declared.row.Row.{Row}
 use Rattle.tables.specs.declared.row.NormalForm.{NormalForm}
 use Rattle.text.specs.Body.{EachAt}
-use Rattle.rule_file.specs.Row.{inRange}
+use Rattle.rule_row.specs.Row.{inRange}
 use Rattle.normal_form.specs.Operand.{isNot}
 
 -- the rows in the used places

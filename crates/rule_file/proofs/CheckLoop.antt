@@ -22,10 +22,10 @@ use Rattle.text.proofs.Elements.{ok-more}
 use Rattle.text.specs.Result.{outcomeOf}
 use Rattle.text.specs.Written.{writtenBody}
 use Rattle.text.proofs.Bodies.{body-line, outcome-map}
-use Rattle.rule_file.specs.Row.{inRange, rowValue}
+use Rattle.rule_row.specs.Row.{inRange, rowValue}
 use Rattle.rule_file.specs.Rule.{inPlace, unused}
-use Rattle.rule_file.specs.Written.{writtenRow}
-use Rattle.rule_file.proofs.WrittenRows.{Small, row-free, value-written}
+use Rattle.rule_row.specs.Written.{writtenRow}
+use Rattle.rule_row.proofs.WrittenRows.{Small, row-free, value-written}
 
 -- the row in place k
 abbrev pub rowAt : List RowPlace → ℕ → Row

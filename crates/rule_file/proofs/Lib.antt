@@ -1,5 +1,3 @@
-pub mod RowValues
 pub mod RowLoop
-pub mod WrittenRows
 pub mod CheckLoop
 pub mod Rules

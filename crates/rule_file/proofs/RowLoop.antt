@@ -16,7 +16,7 @@ use Rattle.text.specs.Result.{mapResult}
 use Rattle.text.specs.Result.Parsed.{good, bad}
 use Rattle.text.specs.Result.Result.{accepted, refused}
 use Rattle.text.proofs.Bodies.{BodyAt, body-starts, body-refused, body-more, body-end, body-surplus}
-use Rattle.rule_file.specs.Row.{rowValue}
+use Rattle.rule_row.specs.Row.{rowValue}
 use Rattle.rule_file.specs.Rule.{formulaOf, inPlace, unused, ruleAnswer}
 
 -- k rows are read, and stand in their places

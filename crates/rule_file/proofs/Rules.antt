@@ -37,12 +37,13 @@ use Rattle.text.proofs.Headers.{count-then, count-in, count-below, count-above,
 use Rattle.text.proofs.Elements.{decimal-short, count-short, body-short}
 use Rattle.text.proofs.Answered.{accepted-table}
 use Rattle.text.proofs.RefusedLines.{RefusedBy, map-by, test-by, count-by, body-by, refused-line, outcome-line}
-use Rattle.rule_file.specs.Row.{inRange, rowValue}
+use Rattle.rule_row.specs.Row.{inRange, rowValue}
 use Rattle.rule_file.specs.Rule.{inPlace, unused, formulaOf, ruleLines, parseRule, ruleAnswer}
 use Rattle.rule_file.specs.declared.rule.RuleAnswer.{RuleAnswer}
-use Rattle.rule_file.specs.Written.{numbersText, writtenRow, rowsOf, ruleText, writtenRule}
+use Rattle.rule_file.specs.Written.{rowsOf, ruleText, writtenRule}
+use Rattle.rule_row.specs.Written.{numbersText, writtenRow}
 use Rattle.rule_file.specs.Valid.{InRange, Valid}
-use Rattle.rule_file.proofs.WrittenRows.{Small, row-free, range-small, value-written, value-read, any-row-free, any-value-read}
+use Rattle.rule_row.proofs.WrittenRows.{Small, row-free, range-small, value-written, value-read, any-row-free, any-value-read}
 
 -- ---- a written rule is never too long
 

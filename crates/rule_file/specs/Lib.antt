@@ -1,4 +1,3 @@
-pub mod Row
 pub mod Rule
 pub mod Written
 pub mod Valid

@@ -17,7 +17,7 @@ use Rattle.text.specs.Count.{countForm}
 use Rattle.text.specs.Body.{bodyLines}
 use Rattle.text.specs.Result.{Result, onLine, mapResult, outcomeOf, tableOr}
 use Rattle.text.specs.Result.Result.{refused}
-use Rattle.rule_file.specs.Row.{rowValue}
+use Rattle.rule_row.specs.Row.{rowValue}
 use Rattle.rule_file.specs.declared.rule.RuleAnswer.{RuleAnswer}
 
 -- "A rule in memory is its counts together with its 64 row places, the unused ones holding `true`."

@@ -6,7 +6,7 @@ use Rattle.tables.specs.Place.{placed}
 use Rattle.tables.specs.declared.row.Row.{Row}
 use Rattle.tables.specs.declared.row.Formula.{Formula}
 use Rattle.text.specs.Body.{EachAt}
-use Rattle.rule_file.specs.Row.{inRange}
+use Rattle.rule_row.specs.Row.{inRange}
 use Rattle.rule_file.specs.Rule.{inPlace, unused}
 use Rattle.rule_file.specs.Written.{rowsOf}
 

@@ -1,23 +1,12 @@
 -- The written form of a formula: its rule file. Assumes nothing.
 use Prim.Native.Nat.{ℕ}
-use mathlib.Core.List.{List, [], _∷_, _++_}
+use mathlib.Core.List.{List}
 use Rattle.tables.specs.Bytes.{bytes}
-use Rattle.tables.specs.Kind.{kindAt, wordOf, placeOf}
 use Rattle.tables.specs.Used.{usedRows}
 use Rattle.tables.specs.declared.row.Row.{Row}
-use Rattle.tables.specs.declared.row.Row.the-variants.{Constant, Signal, Unary, Binary}
 use Rattle.tables.specs.declared.row.Formula.{Formula}
 use Rattle.text.specs.Written.{decimal, writtenLine, writtenBody}
-
--- the numbers behind a row's word, each after a space (byte 32)
-abbrev pub numbersText : Row → List ℕ
-numbersText (Constant c) = []
-numbersText (Signal c s) = 32 ∷ decimal s
-numbersText (Unary c a) = 32 ∷ decimal a
-numbersText (Binary c a b) = 32 ∷ (decimal a ++ (32 ∷ decimal b))
-
-abbrev pub writtenRow : Row → List ℕ
-writtenRow r = wordOf (kindAt (placeOf r)) ++ numbersText r
+use Rattle.rule_row.specs.Written.{writtenRow}
 
 -- "unused places are not written"
 abbrev pub rowsOf : Formula → List Row

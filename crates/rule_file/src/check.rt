@@ -5,10 +5,11 @@ ghost use mathlib.Core.Bool.{true};
 ghost use Rattle.text.specs.Body.{EachAt, bodyLines};
 ghost use Rattle.text.specs.Result.{outcomeOf};
 ghost use Rattle.text.specs.Written.{writtenBody};
-ghost use Rattle.rule_file.specs.Row.{inRange, rowValue};
+ghost use Rattle.rule_row.specs.Row.{inRange, rowValue};
 ghost use Rattle.rule_file.specs.Valid.{InRange};
 ghost use Rattle.rule_file.specs.Rule.{parseRule};
-ghost use Rattle.rule_file.specs.Written.{rowsOf, writtenRow, writtenRule};
+ghost use Rattle.rule_file.specs.Written.{rowsOf, writtenRule};
+ghost use Rattle.rule_row.specs.Written.{writtenRow};
 use tables::kind;
 use tables::refusal::Outcome;
 use tables::refusal::Reason;
@@ -40,7 +41,7 @@ fn check_rows(formula: Formula) -> Outcome
         let row = place.row;
         let first = kind::first_number(row);
         let second = kind::second_number(row);
-        if !crate::row::in_range(signals, k + 1, row, first as usize, second as usize) {
+        if !rule_row::in_range(signals, k + 1, row, first as usize, second as usize) {
             return refuse(Reason::BadReference, k + 4);
         }
         k += 1;

@@ -4,9 +4,9 @@ ghost use Prim.Native.Nat.{_≤_};
 ghost use Rattle.text.specs.Body.{bodyLines};
 ghost use Rattle.text.specs.Result.{mapResult};
 ghost use Rattle.text.specs.Result.Result.{refused};
-ghost use Rattle.rule_file.specs.Row.{rowValue};
+ghost use Rattle.rule_row.specs.Row.{rowValue};
 ghost use Rattle.rule_file.specs.Rule.{formulaOf, parseRule, ruleAnswer};
-use crate::row::RowLine;
+use rule_row::RowLine;
 use tables::refusal::Outcome;
 use tables::refusal::Reason;
 use tables::refusal::Refusal;
@@ -52,9 +52,9 @@ fn read_rows(body: &[u8], signals: usize, rows: usize) -> RuleAnswer
     let mut places = [RowPlace { row: unused }; 64];
     let mut k = 0;
     while k < rows {
-        let line = crate::row::row_line(rest, k + 1, signals);
+        let line = rule_row::row_line(rest, k + 1, signals);
         let RowLine::Row(row, next) = line else {
-            return refuse(crate::row::row_reason(line), k + 4);
+            return refuse(rule_row::row_reason(line), k + 4);
         };
         places[k] = RowPlace { row };
         rest = &rest[next..];

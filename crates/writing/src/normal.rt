@@ -3,7 +3,7 @@ ghost use mathlib.Core.Path.{_≡_};
 ghost use Prim.Native.Nat.{_+_, _≤_};
 ghost use lib.ListN.{length};
 ghost use Rattle.text.specs.Written.{writtenBody};
-ghost use Rattle.rule_file.specs.Written.{writtenRow};
+ghost use Rattle.rule_row.specs.Written.{writtenRow};
 ghost use Rattle.writing.specs.Lent.{Wrote};
 ghost use Rattle.writing.specs.Normal.{rowsOf, writtenNormal};
 use crate::put::put;

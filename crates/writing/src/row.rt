@@ -5,7 +5,7 @@ ghost use Prim.Native.Nat.{_+_, _≤_, _<_};
 ghost use lib.ListN.{length};
 ghost use Rattle.tables.specs.Kind.{kindAt, wordOf};
 ghost use Rattle.text.specs.Written.{decimal, writtenLine};
-ghost use Rattle.rule_file.specs.Written.{writtenRow};
+ghost use Rattle.rule_row.specs.Written.{writtenRow};
 ghost use Rattle.writing.specs.Lent.{Wrote};
 use crate::put::put_byte;
 use crate::put::put_number;

@@ -1,7 +1,8 @@
 use Rattle.text.specs.Body.{bodyLines}
 use Rattle.text.specs.Written.{writtenBody}
-use Rattle.rule_file.specs.Row.{rowValue}
-use Rattle.rule_file.specs.Written.{writtenRow, rowsOf}
+use Rattle.rule_row.specs.Row.{rowValue}
+use Rattle.rule_file.specs.Written.{rowsOf}
+use Rattle.rule_row.specs.Written.{writtenRow}
 use mathlib.Core.Path.{_∙_, sym, ap}
 use lib.ListN.{length-map}
 use Rattle.text.specs.Result.{outcomeOf, mapResult}

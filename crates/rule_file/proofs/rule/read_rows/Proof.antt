@@ -5,7 +5,7 @@ use lib.ListN.{length}
 use Rattle.text.proofs.Searching.{rest-part}
 use Rattle.text.proofs.Lines.{line-inside}
 use Rattle.text.specs.Result.{mapResult}
-use Rattle.rule_file.specs.Row.{rowLineAs, reasonOf}
+use Rattle.rule_row.specs.Row.{rowLineAs, reasonOf}
 use Rattle.rule_file.proofs.RowLoop.{RowsAt, rows-start, places-long, rows-refused, rows-more, rows-surplus, rows-end}
 use borrow.Author.Needs.{needs}
 use Rattle.rule_file.proofs.rule.read_rows.Statement.{statement}

@@ -6,7 +6,7 @@ use Rattle.tables.specs.Used.{usedRows}
 use Rattle.tables.specs.declared.row.RowPlace.{RowPlace}
 use Rattle.text.specs.Written.{writtenBody}
 use Rattle.rule_file.specs.Rule.{inPlace, unused}
-use Rattle.rule_file.specs.Written.{writtenRow}
+use Rattle.rule_row.specs.Written.{writtenRow}
 use Rattle.writing.specs.Lent.{Wrote}
 use Rattle.writing.proofs.Texts.{wrote-both, wrote-is, wrote-none, places-next, places-all}
 use borrow.Author.Needs.{needs}

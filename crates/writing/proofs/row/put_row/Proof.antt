@@ -4,7 +4,7 @@ use Prim.Native.Nat.{ℕ}
 use native.Mathlib.Omega.{arith}
 use Rattle.tables.specs.Kind.{kindAt, wordOf}
 use Rattle.text.specs.Written.{decimal}
-use Rattle.rule_file.specs.Written.{writtenRow, numbersText}
+use Rattle.rule_row.specs.Written.{writtenRow, numbersText}
 use Rattle.writing.proofs.Texts.{wrote-both, wrote-is}
 use borrow.Author.Needs.{needs}
 use Rattle.writing.proofs.row.put_row.Statement.{statement}

@@ -2,10 +2,10 @@ use mathlib.Core.Path.{_∙_, sym}
 use native.Mathlib.Omega.{arith}
 use lib.ListN.{length-take, length-drop}
 use Rattle.text.proofs.Searching.{know, found, rest-part}
-use Rattle.rule_file.specs.Row.{rowForm}
+use Rattle.rule_row.specs.Row.{rowForm}
 use borrow.Author.Needs.{needs}
-use Rattle.rule_file.proofs.row.row_form.Statement.{statement}
-use Rattle.rule_file.proofs.row.row_form.Tie as tie
+use Rattle.rule_row.proofs.row_form.Statement.{statement}
+use Rattle.rule_row.proofs.row_form.Tie as tie
 
 returns : tie.Need-returns
 unfolding rowForm

@@ -28,9 +28,9 @@ use Rattle.text.proofs.Searching.{clash, hit, each-found, each-pick, same-eq, p
 use Rattle.text.proofs.Numbers.{number-written, number-read, each-number}
 use Rattle.text.proofs.Lines.{Free, free-append, first-at, first-free, cut-front, cut-behind, cut-found, no-digit-below, free-decimal}
 use Rattle.text.proofs.Headers.{lacks, free, free-below, decimal-inj}
-use Rattle.rule_file.specs.Row.{kindNamed, formOf, rowForm, isSignal, isOperand, inRange, rowValue}
-use Rattle.rule_file.specs.Written.{numbersText, writtenRow}
-use Rattle.rule_file.proofs.RowValues.{form-counted, numbers-below}
+use Rattle.rule_row.specs.Row.{kindNamed, formOf, rowForm, isSignal, isOperand, inRange, rowValue}
+use Rattle.rule_row.specs.Written.{numbersText, writtenRow}
+use Rattle.rule_row.proofs.RowValues.{form-counted, numbers-below}
 
 -- ---- the words of the table, each by one test over the whole table
 

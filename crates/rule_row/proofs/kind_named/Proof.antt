@@ -10,9 +10,9 @@ use Rattle.tables.specs.Kind.{kinds, kindAt, noKind, wordOf}
 use Rattle.tables.specs.declared.kind.Kind.{Kind}
 use Rattle.tables.proofs.KindTable.{word-fits}
 use Rattle.text.proofs.Searching.{FirstAt, first-starts, first-hit, first-miss, first-none, know}
-use Rattle.rule_file.specs.Row.{kindNamed}
-use Rattle.rule_file.proofs.row.kind_named.Statement.{statement}
-use Rattle.rule_file.proofs.row.kind_named.Tie as tie
+use Rattle.rule_row.specs.Row.{kindNamed}
+use Rattle.rule_row.proofs.kind_named.Statement.{statement}
+use Rattle.rule_row.proofs.kind_named.Tie as tie
 
 abbrev Inv-loop : tie.InvT-loop
 Inv-loop word place₀ place = FirstAt (λ (k : Kind). sameBytes word (wordOf k)) kinds place

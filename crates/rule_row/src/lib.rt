@@ -3,7 +3,7 @@ ghost use mathlib.Core.Path.{_≡_};
 ghost use Prim.Native.Nat.{_≤_};
 ghost use Rattle.tables.specs.Kind.{withNumbers};
 ghost use Rattle.text.specs.Line.{isNumbered, keyedLine};
-ghost use Rattle.rule_file.specs.Row.{formAs, formOf, inRange, isOperand, isSignal, kindNamed, reasonOf, rowForm, rowLineAs, rowValue};
+ghost use Rattle.rule_row.specs.Row.{formAs, formOf, inRange, isOperand, isSignal, kindNamed, reasonOf, rowForm, rowLineAs, rowValue};
 use tables::kind;
 use tables::refusal::Reason;
 use tables::row::Row;

@@ -1,6 +1,6 @@
 use borrow.Author.Tests.{eq-eqb, ne-eqb}
-use Rattle.rule_file.proofs.row.is_operand.Statement.{statement}
-use Rattle.rule_file.proofs.row.is_operand.Tie as tie
+use Rattle.rule_row.proofs.is_operand.Statement.{statement}
+use Rattle.rule_row.proofs.is_operand.Tie as tie
 
 returns : tie.Need-returns
 returns c = rw (eq-eqb _ _ (c .if1 .taken))

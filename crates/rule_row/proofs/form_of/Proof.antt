@@ -2,12 +2,12 @@ use mathlib.Core.Path.{_∙_, sym, ap}
 use Rattle.tables.specs.Kind.{kinds, noKind, numbersIn}
 use Rattle.tables.specs.declared.kind.Kind.{Kind}
 use Rattle.text.proofs.Searching.{know, found}
-use Rattle.rule_file.specs.Row.{kindNamed, formAs}
-use Rattle.rule_file.specs.declared.row.RowForm.the-variants.{Form}
-use Rattle.rule_file.proofs.RowValues.{form-unknown, form-miscounted, form-counted}
+use Rattle.rule_row.specs.Row.{kindNamed, formAs}
+use Rattle.rule_row.specs.declared.RowForm.the-variants.{Form}
+use Rattle.rule_row.proofs.RowValues.{form-unknown, form-miscounted, form-counted}
 use borrow.Author.Needs.{needs}
-use Rattle.rule_file.proofs.row.form_of.Statement.{statement}
-use Rattle.rule_file.proofs.row.form_of.Tie as tie
+use Rattle.rule_row.proofs.form_of.Statement.{statement}
+use Rattle.rule_row.proofs.form_of.Tie as tie
 
 returns : tie.Need-returns
 returns c = sym (form-unknown _ _ _ _ (know (c .before .before .kind-named .ensures) (c .enum-told .given .1)))

@@ -6,12 +6,12 @@ use lib.ListN.{length-take}
 use borrow.Author.Tests.{not-true, not-false}
 use Rattle.text.proofs.Searching.{know}
 use Rattle.text.proofs.Lines.{cut-known, keyed-absent, keyed-other, keyed-bad, keyed-good}
-use Rattle.rule_file.specs.Row.{formAs, rowLineAs}
-use Rattle.rule_file.specs.declared.row.RowLine.the-variants.{Row as RowRead}
-use Rattle.rule_file.proofs.RowValues.{value-formless, value-outside, value-inside, small-numbers}
+use Rattle.rule_row.specs.Row.{formAs, rowLineAs}
+use Rattle.rule_row.specs.declared.RowLine.the-variants.{Row as RowRead}
+use Rattle.rule_row.proofs.RowValues.{value-formless, value-outside, value-inside, small-numbers}
 use borrow.Author.Needs.{needs}
-use Rattle.rule_file.proofs.row.row_line.Statement.{statement}
-use Rattle.rule_file.proofs.row.row_line.Tie as tie
+use Rattle.rule_row.proofs.row_line.Statement.{statement}
+use Rattle.rule_row.proofs.row_line.Tie as tie
 
 returns : tie.Need-returns
 returns c = sym (keyed-absent _ _ _ (know (c .before .before .cut-line .ensures) (c .enum-told .given .1)))

@@ -2,8 +2,8 @@ use mathlib.Core.Path.{_∙_, sym}
 use borrow.Author.Tests.{not-true, not-false}
 use Rattle.text.proofs.Searching.{know}
 use borrow.Author.Needs.{needs}
-use Rattle.rule_file.proofs.row.in_range.Statement.{statement}
-use Rattle.rule_file.proofs.row.in_range.Tie as tie
+use Rattle.rule_row.proofs.in_range.Statement.{statement}
+use Rattle.rule_row.proofs.in_range.Tie as tie
 
 returns : tie.Need-returns
 returns c = rw (c .before .before .enum-told4 .given .1, know (c .before .is-operand2 .ensures) (not-true _ (c .if1 .taken)))

@@ -16,7 +16,7 @@ use Rattle.tables.specs.declared.row.Row.the-variants.{Constant, Signal, Unary,
 use Rattle.text.specs.Result.Parsed.{good, bad}
 use Rattle.text.specs.declared.search.Found.the-variants.{At, Nothing}
 use Rattle.text.proofs.Searching.{clash, pick-both}
-use Rattle.rule_file.specs.Row.{kindNamed, formOf, rowForm, isSignal, isOperand, inRange, rowValue}
+use Rattle.rule_row.specs.Row.{kindNamed, formOf, rowForm, isSignal, isOperand, inRange, rowValue}
 
 -- a word by its kind
 module _ (word : List ℕ) (count a b : ℕ) where

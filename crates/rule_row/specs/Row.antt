@@ -16,10 +16,10 @@ use Rattle.text.specs.Number.{numberOf, onNumber}
 use Rattle.text.specs.Result.{Parsed, Next, onParsed}
 use Rattle.text.specs.Result.Parsed.{good, bad}
 use Rattle.text.specs.declared.search.Found.{Found}
-use Rattle.rule_file.specs.declared.row.RowForm.{RowForm}
-use Rattle.rule_file.specs.declared.row.RowForm.the-variants.{Form, Formless}
-use Rattle.rule_file.specs.declared.row.RowLine.{RowLine}
-use Rattle.rule_file.specs.declared.row.RowLine.the-variants.{Row as RowRead, Wrong}
+use Rattle.rule_row.specs.declared.RowForm.{RowForm}
+use Rattle.rule_row.specs.declared.RowForm.the-variants.{Form, Formless}
+use Rattle.rule_row.specs.declared.RowLine.{RowLine}
+use Rattle.rule_row.specs.declared.RowLine.the-variants.{Row as RowRead, Wrong}
 
 -- the place in the table of the kind that has this word
 unfoldable pub kindNamed : List ℕ → Found
