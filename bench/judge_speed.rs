@@ -22,19 +22,23 @@ use std::time::Instant;
 #[allow(unsafe_code)]
 mod library {
     extern "C" {
-        fn citronhelm_judge(
+        fn citronhelm_judge_text(
             rule: *const u8,
             rule_len: usize,
             take: *const u8,
             take_len: usize,
             text: *mut u8,
             text_len: usize,
-        ) -> usize;
+        ) -> u64;
     }
 
-    /// Nothing is asked of the slices; the three cannot overlap, since one of them is lent mutably.
+    /// The text's length, or 0 where the buffer is too short (the highest bit says so). Nothing is asked of the slices; the three
+    /// cannot overlap, since one of them is lent mutably.
     pub fn judge(rule: &[u8], take: &[u8], text: &mut [u8]) -> usize {
-        unsafe { citronhelm_judge(rule.as_ptr(), rule.len(), take.as_ptr(), take.len(), text.as_mut_ptr(), text.len()) }
+        let answer = unsafe {
+            citronhelm_judge_text(rule.as_ptr(), rule.len(), take.as_ptr(), take.len(), text.as_mut_ptr(), text.len())
+        };
+        if answer >> 63 == 1 { 0 } else { answer as usize }
     }
 }
 

@@ -127,6 +127,13 @@ fn answer(outcome: Outcome, formula: Formula, trace: Trace) -> Answer
     }
 }
 
+// SERVICE: the verdict on a take of either kind.
+pub fn judge(formula: Formula, trace: Trace) -> Answer
+    ensures { λ r. ⌜ Answers (pairOutcome formula trace) formula trace r ⌝ }
+{
+    answer(check_pair(formula, trace), formula, trace)
+}
+
 // SERVICE: the verdict on a looped take, `holds` or `breaks`.
 pub fn judge_looped(formula: Formula, trace: Trace) -> Answer
     ensures { λ r. ⌜ Answers (loopedOutcome formula trace) formula trace r ⌝ }

@@ -1,1 +1,2 @@
-pub mod NotEmpty
+pub mod Codes
+pub mod Files

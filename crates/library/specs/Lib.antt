@@ -1,1 +1,3 @@
-pub mod Length
+pub mod File
+pub mod Code
+pub mod Service

@@ -1,14 +1,16 @@
-use mathlib.Core.Path.{_≡_, sym, ap}
-use Rattle.library.specs.Length.{lengthOf}
+use mathlib.Core.Path.{_≡_}
+use Rattle.rule_file.specs.Rule.{parseRule}
+use Rattle.take_file.specs.Take.{parseTake}
+use Rattle.library.proofs.Files.{pair-refused, pair-read}
 use borrow.Author.Needs.{needs}
 use Rattle.library.proofs.citronhelm_judge.Statement.{statement}
 use Rattle.library.proofs.citronhelm_judge.Tie as tie
 
 returns : tie.Need-returns
-returns c = record { answer = _; prints = c .before .before .before .before .before .judge .ensures; counted = sym (ap lengthOf (c .before .answer .given .1)) }
+returns c = pair-refused (parseRule (c .before .before .before .before .before .before .before .args .rule .now)) (parseTake (c .before .before .before .before .before .before .before .args .take .now)) (c .before .before .before .before .read-pair .result) (c .before .before .before .before .read-pair .ensures) _ _ (c .before .before .outcome .given .1) (c .refusal-code .ensures)
 
 returns-2 : tie.Need-returns-2
-returns-2 c = record { answer = _; prints = c .before .before .before .before .judge .ensures; counted = sym (ap lengthOf (c .enum-told .given .1)) }
+returns-2 c = pair-read (parseRule (c .before .before .before .before .before .before .before .args .rule .now)) (parseTake (c .before .before .before .before .before .before .before .args .take .now)) (c .before .before .before .before .read-pair .result) (c .before .before .before .before .read-pair .ensures) _ _ (c .before .before .enum-told .given .1) (record { answer = _; answers = c .before .judge .ensures; coded = c .judge-code .ensures })
 
 pub citronhelm-judge-spec : {M : Type 1} → statement M
 citronhelm-judge-spec =
@@ -16,8 +18,9 @@ citronhelm-judge-spec =
     (tie.spec
     (λ c κs. search needs)
     (λ c. search needs)
+    (λ c κs. search needs)
     (λ c. search needs)
-    (λ c. search needs)
+    (λ c κs. search needs)
+    (λ c κs. search needs)
     returns
-    (λ c. search needs)
     returns-2)

@@ -1,0 +1,14 @@
+use mathlib.Core.Path.{_≡_, refl}
+use borrow.Author.Tests.{eq-eqb, ne-eqb}
+use borrow.Author.Needs.{needs}
+use Rattle.library.proofs.code.sign_named.Statement.{statement}
+use Rattle.library.proofs.code.sign_named.Tie as tie
+
+returns : tie.Need-returns
+returns c = rw (eq-eqb _ 0 (c .if1 .taken)) refl
+
+returns-2 : tie.Need-returns-2
+returns-2 c = rw (ne-eqb _ 0 (c .if1 .left)) refl
+
+pub sign-named-spec : {M : Type 1} → statement M
+sign-named-spec = tie.close (tie.spec returns returns-2)

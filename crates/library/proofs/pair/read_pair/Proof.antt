@@ -1,0 +1,14 @@
+use mathlib.Core.Path.{_≡_, refl, sym, ap, _∙_}
+use Rattle.rule_file.specs.Rule.{parseRule}
+use Rattle.take_file.specs.Take.{parseTake}
+use Rattle.library.proofs.Files.{pair-is}
+use borrow.Author.Needs.{needs}
+use Rattle.library.proofs.pair.read_pair.Statement.{statement}
+use Rattle.library.proofs.pair.read_pair.Tie as tie
+
+returns : tie.Need-returns
+returns c = pair-is (parseRule (c .before .before .before .before .before .before .before .args .rule .now)) (parseTake (c .before .before .before .before .before .before .before .args .take .now)) (c .before .before .before .before .read-rule .result) (c .before .before .before .read-take .result) _ (c .before .before .before .before .read-rule .ensures) (c .before .before .before .read-take .ensures) (c .before .before .first-refusal .ensures)
+
+pub read-pair-spec : {M : Type 1} → statement M
+read-pair-spec =
+    tie.close (tie.spec (λ c κs. search needs) (λ c κs. search needs) (λ c κs. search needs) returns)

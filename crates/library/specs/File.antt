@@ -1,0 +1,26 @@
+-- Services on files: a file that is turned back is told as it is ("Files go rule, take, sheet"), and a file that is read goes to the
+-- service on tables. Assumes nothing.
+use Prim.Native.Nat.{ℕ}
+use mathlib.Core.List.{List, []}
+use Rattle.tables.specs.Refusal.{andThen}
+use Rattle.tables.specs.declared.refusal.Refusal.{Refusal}
+use Rattle.tables.specs.declared.row.Formula.{Formula}
+use Rattle.tables.specs.declared.trace.Trace.{Trace}
+use Rattle.text.specs.Result.{Result, outcomeOf}
+use Rattle.text.specs.Result.Result.{accepted, refused}
+use Rattle.rule_file.specs.Rule.{ruleAnswer}
+use Rattle.take_file.specs.Take.{takeAnswer}
+use Rattle.library.specs.declared.pair.Pair.{Pair}
+
+-- "A refusal gives number, file (1 rule, 2 take, 3 sheet) and line": `turns` of the refusal, or `goes` of the table
+abbrev pub OnFile : {A : Type 0} → ℕ → Result A → (Refusal → Type 0) → (A → Type 0) → Type 0
+OnFile file (accepted x) turns goes = goes x
+OnFile file (refused e n) turns goes = turns (record { reason = e; file = file; line = n })
+
+-- "Files go rule, take"
+abbrev pub OnPair : Result Formula → Result Trace → (Refusal → Type 0) → (Formula → Trace → Type 0) → Type 0
+OnPair p q turns goes = OnFile 1 p turns (λ f. OnFile 2 q turns (goes f))
+
+-- what the code keeps of two files
+abbrev pub pairRead : Result Formula → Result Trace → Pair
+pairRead p q = record { outcome = andThen (outcomeOf 1 p) (outcomeOf 2 q); formula = ruleAnswer p .formula; trace = takeAnswer q .trace }

@@ -1,0 +1,42 @@
+// A rule file and a take file, read.
+ghost use mathlib.Core.Path.{_≡_};
+ghost use Rattle.tables.specs.Refusal.{andThen};
+ghost use Rattle.rule_file.specs.Rule.{parseRule};
+ghost use Rattle.take_file.specs.Take.{parseTake};
+ghost use Rattle.library.specs.File.{pairRead};
+use tables::refusal::Outcome;
+use tables::row::Formula;
+use tables::trace::Trace;
+
+// The first refusal, or both tables; a file that is refused leaves the empty one.
+pub struct Pair {
+    pub outcome: Outcome,
+    pub formula: Formula,
+    pub trace: Trace,
+}
+
+fn first_refusal(first: Outcome, second: Outcome) -> Outcome
+    ensures { λ r. ⌜ r ≡ andThen first second ⌝ }
+{
+    match first {
+        Outcome::Accepted => second,
+        Outcome::Refused(refusal) => Outcome::Refused(refusal),
+    }
+}
+
+pub fn read_pair(rule: &[u8], take: &[u8]) -> Pair
+    ensures { λ r. ⌜ r ≡ pairRead (parseRule (now (rule .entry))) (parseTake (now (take .entry))) ⌝ }
+{
+    let first = rule_file::rule::read_rule(rule);
+    let second = take_file::take::read_take(take);
+    let one = first.outcome;
+    let two = second.outcome;
+    let outcome = first_refusal(one, two);
+    let formula = first.formula;
+    let trace = second.trace;
+    Pair {
+        outcome,
+        formula,
+        trace,
+    }
+}
