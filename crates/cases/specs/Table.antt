@@ -1,5 +1,5 @@
--- The cases that 01 marks P ("Rules and takes to try"), one row each, and three that it does not: two on `next`, and the text of
--- `judge`. Due so far: those on the normal form and on verdicts. Assumes nothing.
+-- The cases that 01 marks P ("Rules and takes to try"), one row each, and four that it does not: two on `next`, the text of `judge`,
+-- and that the sheet made for rule A passes. Assumes nothing.
 use mathlib.Core.List.{List, [], _∷_}
 use Rattle.normal_form.specs.declared.sign.Sign.the-variants.{Plain}
 use Rattle.judging.specs.declared.verdict.Verdict.the-variants.{Holds, Breaks, Kept, Broken, Open}

@@ -2,7 +2,7 @@
 ghost use Rattle.io.specs.Counts.{Counts};
 
 // The file's first bytes, as many as the buffer holds. With 65,537 places a file that is too long for any format is known to be
-// so without being read whole. A file that cannot be opened or read counts as empty (01).
+// so without being read whole. A file that cannot be opened counts as empty (01); where reading fails, what came before stays.
 pub fn load(path: &[u8], buf: &mut [u8]) -> usize
     ensures { λ r. ⌜ Counts r (now (buf .exit)) ⌝ }
 {
