@@ -1,7 +1,7 @@
 #!/usr/bin/env python3
 """Writes the cases of crates/check_files, crates/sheet_files and crates/try_sheets: files, their names and what must be printed.
 
-check_files: a rule, a take and a sheet; what `check` prints of them.
+check_files: a rule, a take and a sheet; what `check_sheet` prints of them.
 sheet_files: a rule and a take; the sheet file, `none` or the refusal, as `sheet` prints it.
 try_sheets:  a rule and a take with few rows and cycles; the verdict, and how many of all sheets pass.
 

@@ -1,5 +1,5 @@
 #!/usr/bin/env python3
-"""Runs a program in the place of `judge`, `sheet` or `check` on each case of crates/judge_files, crates/sheet_files or
+"""Runs a program in the place of `judge`, `sheet` or `check_sheet` on each case of crates/judge_files, crates/sheet_files or
 crates/check_files, its files as rule.txt, take.txt and sheet.txt of a folder of their own, and holds what it prints to that crate's
 file `stdout`.
 

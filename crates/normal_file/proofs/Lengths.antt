@@ -28,7 +28,7 @@ use Rattle.writing.proofs.Texts.{decimal-one, decimal-two, decimal-three}
 use Rattle.normal_file.specs.Answer.{output}
 
 -- a number below 1000 takes three bytes at most
-decimal-most : (n : ℕ) → n < 1000 → length (decimal n) ≤ 3
+pub decimal-most : (n : ℕ) → n < 1000 → length (decimal n) ≤ 3
 decimal-most n h = by (decLt n 10) (decLt (n / 10) 10)
   where
     by : Dec (n < 10) → Dec (n / 10 < 10) → length (decimal n) ≤ 3
