@@ -1,5 +1,4 @@
--- What has to be computed for a case (Computed), and that the case is then so (computed-says). And the text of `judge` is one
--- (one-text). Assumes nothing.
+-- What has to be computed for a case (Computed), and that the case is then so (computed-says). Assumes nothing.
 use Prim.Native.Nat.{ℕ}
 use mathlib.Core.Path.{_≡_, refl, sym, ap, _∙_}
 use mathlib.Core.Bool.{Bool, true, false}
@@ -105,13 +104,3 @@ computed-says (checks rule take sheet y) x = checked rule take sheet _ _ _ y ref
 pub all-say : (cs : List Case) → Each Computed cs → Each Says cs
 all-say [] none = none
 all-say (c ∷ cs) (first x xs) = first (computed-says c x) (all-say cs xs)
-
--- THE CONTRACT LEAVES ONE TEXT
-pub one-text : (p : Result Formula) (q : Result Trace) (a b : List ℕ) → IsText p q a → IsText p q b → a ≡ b
-one-text (refused e n) q a b x y = x ∙ sym y
-one-text (accepted f) (refused e n) a b x y = x ∙ sym y
-one-text (accepted f) (accepted t) a b x y = pair (eqb (f .signals) (t .signals)) x y
-  where
-    pair : (same : Bool) → IsPairText same f t a → IsPairText same f t b → a ≡ b
-    pair false x y = x ∙ sym y
-    pair true (v, is, e) (u, other, d) = e ∙ ap (verdictText (f .signals) (normalForm f Plain .rows) (t .cycles) (t .ending)) (other .only v (is .said)) ∙ sym d

@@ -9,8 +9,6 @@ use native.Mathlib.Omega.{arith}
 use lib.Dec.{eqb}
 use lib.ListN.{length}
 use borrow.Author.Tests.{eq-eqb}
-use Rattle.tables.specs.Choice.{pick}
-use Rattle.tables.specs.Refusal.{andThen}
 use Rattle.tables.proofs.Places.{length-tabulate}
 use Rattle.tables.proofs.Outcomes.{agree}
 use Rattle.tables.specs.declared.refusal.Outcome.the-variants.{Accepted}
@@ -20,8 +18,7 @@ use Rattle.tables.specs.declared.trace.Activation.{Activation}
 use Rattle.tables.specs.declared.trace.Ending.{Ending}
 use Rattle.tables.specs.declared.trace.Ending.the-variants.{Open, Loop}
 use Rattle.tables.specs.declared.trace.Trace.{Trace}
-use Rattle.text.specs.Result.{Result}
-use Rattle.text.specs.Result.Result.{accepted, refused}
+use Rattle.text.specs.Result.Result.{refused}
 use Rattle.rule_file.specs.Valid.{Valid as FormulaValid}
 use Rattle.rule_file.proofs.Rules.{rule-written}
 use Rattle.take_file.specs.Valid.{Below as LoopBelow, Valid as TraceValid}
@@ -36,7 +33,7 @@ use Rattle.meaning.proofs.Readings.{On, on-and-off}
 use Rattle.meaning.proofs.Truth.{everyCycle}
 use Rattle.meaning.proofs.Periodic.{position-first}
 use Rattle.meaning.proofs.Evaluation.{bitsOf}
-use Rattle.meaning.proofs.Lasso.{lasso, lasso-bits-computed, lasso-truth}
+use Rattle.meaning.proofs.Lasso.{lasso-bits-computed, lasso-truth}
 use Rattle.normal_form.specs.declared.sign.Sign.the-variants.{Plain}
 use Rattle.normal_form.specs.Form.{InNormalForm}
 use Rattle.normal_form.specs.Numbering.{normalForm}
@@ -46,13 +43,12 @@ use Rattle.truth.specs.Truth.{TrueIn}
 use Rattle.monitors.specs.Sheet.{activatorAt, IsRow}
 use Rattle.writing.specs.Answer.{writtenAnswer}
 use Rattle.writing.specs.Lent.{overlaid}
-use Rattle.judging.specs.declared.verdict.Verdict.{Verdict}
 use Rattle.judging.specs.declared.verdict.Verdict.the-variants.{Holds}
 use Rattle.judging.specs.Verdict.{SaysOf, VerdictOf}
 use Rattle.judging.specs.Refusals.{pairOutcome}
 use Rattle.judging.proofs.ByBits.{computedVerdict, verdict-computed}
 use Rattle.sheet_maker.specs.Made.{SatisfiedIn, Satisfied, IsMade}
-use Rattle.sheet_maker.specs.Answer.{answerOf, Answers, Answers.sheet, MakesOn, Makes}
+use Rattle.sheet_maker.specs.Answer.{answerOf, Answers.sheet, Makes}
 use Rattle.sheet_check.specs.declared.finding.Finding.{Finding}
 use Rattle.sheet_check.specs.declared.finding.CheckAnswer.the-variants.{Checked}
 use Rattle.sheet_check.specs.Finding.{FindingOf}

@@ -1,6 +1,6 @@
 -- The text of `check_sheet` by its cases. Assumes nothing.
 use Prim.Native.Nat.{ℕ}
-use mathlib.Core.Path.{_≡_, refl, subst⁻¹}
+use mathlib.Core.Path.{_≡_, refl}
 use mathlib.Core.Bool.{true, false, _&&_}
 use mathlib.Core.List.{List}
 use native.Mathlib.Omega.{arith}
@@ -8,14 +8,11 @@ use lib.Dec.{eqb}
 use borrow.Author.Tests.{eq-eqb, ne-eqb}
 use Rattle.tables.specs.declared.refusal.Reason.the-variants.{SignalsDiffer, SizeDiffers}
 use Rattle.tables.specs.declared.refusal.Refusal.{Refusal}
-use Rattle.tables.specs.declared.refusal.Outcome.the-variants.{Refused}
 use Rattle.tables.specs.declared.row.Formula.{Formula}
 use Rattle.tables.specs.declared.row.NormalForm.{NormalForm}
 use Rattle.tables.specs.declared.trace.Activation.{Activation}
 use Rattle.tables.specs.declared.trace.Trace.{Trace}
-use Rattle.text.specs.Result.{Result, outcomeOf}
 use Rattle.text.specs.Result.Result.{accepted}
-use Rattle.text.proofs.Answered.{refused-table}
 use Rattle.take_file.specs.Valid.{InRange}
 use Rattle.normal_form.specs.declared.sign.Sign.the-variants.{Plain}
 use Rattle.normal_form.specs.Numbering.{normalForm}
@@ -46,22 +43,3 @@ module _ (f : Formula) (t : Trace) (a : Activation) where
 
     pub found-text : (eqb (a .rows) (normalForm f Plain .rows) && eqb (a .cycles) (t .cycles)) ≡ true → (x : Finding) → FindingOf (normalForm f Plain) t a x → IsCheckText (accepted f) (accepted t) (accepted a) (findingText x)
     found-text n x is = rw (eq-eqb (f .signals) (t .signals) e, n) (x, is, refl)
-
--- ---- three files
-module _ (p : Result Formula) (q : Result Trace) (s : Result Activation) where
-  pub rule-refused-text : {x : Refusal} → outcomeOf 1 p ≡ Refused x → IsCheckText p q s (refusalText x)
-  rule-refused-text h = refused-table 1 p h (λ p x. IsCheckText p q s (refusalText x)) (λ e n. refl)
-
-  module _ {f : Formula} (g : p ≡ accepted f) where
-    pub take-refused-text : {x : Refusal} → outcomeOf 2 q ≡ Refused x → IsCheckText p q s (refusalText x)
-    take-refused-text {x} h = subst⁻¹ (λ p. IsCheckText p q s (refusalText x)) g (refused-table 2 q h (λ q x. IsCheckText (accepted f) q s (refusalText x)) (λ e n. refl))
-
-    pub sheet-text : {t : Trace} → q ≡ accepted t → (text : List ℕ) → IsCheckText (accepted f) (accepted t) s text → IsCheckText p q s text
-    sheet-text h text x = subst⁻¹ (λ p. IsCheckText p q s text) g (subst⁻¹ (λ q. IsCheckText (accepted f) q s text) h x)
-
-module _ (f : Formula) (t : Trace) (s : Result Activation) where
-  pub sheet-refused-text : {x : Refusal} → outcomeOf 3 s ≡ Refused x → IsCheckText (accepted f) (accepted t) s (refusalText x)
-  sheet-refused-text h = refused-table 3 s h (λ s x. IsCheckText (accepted f) (accepted t) s (refusalText x)) (λ e n. refl)
-
-  pub tables-text : {a : Activation} → s ≡ accepted a → (text : List ℕ) → IsCheckText (accepted f) (accepted t) (accepted a) text → IsCheckText (accepted f) (accepted t) s text
-  tables-text h text x = subst⁻¹ (λ s. IsCheckText (accepted f) (accepted t) s text) h x

@@ -9,9 +9,9 @@ use Rattle.tables.specs.declared.row.Formula.{Formula}
 use Rattle.tables.specs.declared.trace.Activation.{Activation}
 use Rattle.tables.specs.declared.trace.Trace.{Trace}
 use Rattle.text.specs.Result.{Result}
-use Rattle.text.specs.Result.Result.{accepted, refused}
 use Rattle.rule_file.specs.Rule.{parseRule}
 use Rattle.take_file.specs.Take.{parseTake}
+use Rattle.rule_and_take.specs.File.{OnFile, OnPair}
 use Rattle.sheet_file.specs.Sheet.{parseSheet}
 use Rattle.normal_form.specs.declared.sign.Sign.the-variants.{Plain}
 use Rattle.normal_form.specs.Numbering.{normalForm}
@@ -29,12 +29,15 @@ abbrev pub IsOutcomeText : Outcome → Formula → Trace → Activation → List
 IsOutcomeText (Refused x) f t a text = text ≡ refusalText x
 IsOutcomeText Accepted f t a text = (x : Finding) × FindingOf (normalForm f Plain) t a x × (text ≡ findingText x)
 
--- "Files go rule, take, sheet"; "file (1 rule, 2 take, 3 sheet)"; "Then 7 to 10 in order"
+-- "Files go rule, take, sheet"; "Then 7 to 10 in order"
 abbrev pub IsCheckText : Result Formula → Result Trace → Result Activation → List ℕ → Type 0
-IsCheckText (refused e n) take sheet text = text ≡ refusalText (record { reason = e; file = 1; line = n })
-IsCheckText (accepted f) (refused e n) sheet text = text ≡ refusalText (record { reason = e; file = 2; line = n })
-IsCheckText (accepted f) (accepted t) (refused e n) text = text ≡ refusalText (record { reason = e; file = 3; line = n })
-IsCheckText (accepted f) (accepted t) (accepted a) text = IsOutcomeText (andThen (sevenOutcome f t) (nineOutcome f t a)) f t a text
+IsCheckText p q s text =
+    OnPair p q
+    (λ why. text ≡ refusalText why)
+    (λ f t.
+    OnFile 3 s
+    (λ why. text ≡ refusalText why)
+    (λ a. IsOutcomeText (andThen (sevenOutcome f t) (nineOutcome f t a)) f t a text))
 
 -- the text goes into the buffer whole, or nothing does
 pub record Prints (rule take sheet before after : List ℕ) (answer : Bytes) : Type 0 where

@@ -1,20 +1,14 @@
 -- The text of `judge` by its cases. Assumes nothing.
 use Prim.Native.Nat.{ℕ, _≤_}
 use mathlib.Core.Path.{_≡_, refl, ap, subst⁻¹}
-use mathlib.Core.List.{List}
 use native.Mathlib.Omega.{arith}
 use lib.Dec.{eqb}
 use borrow.Author.Tests.{eq-eqb, ne-eqb}
 use Rattle.tables.specs.declared.refusal.Reason.the-variants.{SignalsDiffer}
-use Rattle.tables.specs.declared.refusal.Refusal.{Refusal}
-use Rattle.tables.specs.declared.refusal.Outcome.the-variants.{Refused}
 use Rattle.tables.specs.declared.row.Formula.{Formula}
 use Rattle.tables.specs.declared.trace.Ending.{Ending}
 use Rattle.tables.specs.declared.trace.Ending.the-variants.{Open, Loop}
 use Rattle.tables.specs.declared.trace.Trace.{Trace}
-use Rattle.text.specs.Result.{Result, outcomeOf}
-use Rattle.text.specs.Result.Result.{accepted}
-use Rattle.text.proofs.Answered.{refused-table}
 use Rattle.take_file.specs.Valid.{Below}
 use Rattle.normal_form.specs.declared.sign.Sign.the-variants.{Plain}
 use Rattle.normal_form.specs.Numbering.{normalForm}
@@ -22,7 +16,7 @@ use Rattle.writing.specs.Refusal.{refusalText}
 use Rattle.judging.specs.declared.verdict.Verdict.{Verdict}
 use Rattle.judging.specs.Verdict.{VerdictOf}
 use Rattle.judge_text.specs.Text.{verdictText}
-use Rattle.judge_text.specs.Answer.{IsPairText, IsText}
+use Rattle.judge_text.specs.Answer.{IsPairText}
 
 pub below-more : (ending : Ending) (m n : ℕ) → m ≤ n → Below m ending → Below n ending
 below-more Open m n h b = tt
@@ -36,15 +30,3 @@ module _ (f : Formula) (t : Trace) where
 
   pub judged-text : f .signals ≡ t .signals → (v : Verdict) → VerdictOf f t v → (rows : ℕ) → rows ≡ normalForm f Plain .rows → IsPairText (eqb (f .signals) (t .signals)) f t (verdictText (f .signals) rows (t .cycles) (t .ending) v)
   judged-text e v is rows r = subst⁻¹ (λ b. IsPairText b f t (verdictText (f .signals) rows (t .cycles) (t .ending) v)) (eq-eqb (f .signals) (t .signals) e) (v, is, ap (λ n. verdictText (f .signals) n (t .cycles) (t .ending) v) r)
-
--- ---- two files
-module _ (p : Result Formula) (q : Result Trace) where
-  pub rule-refused-text : {x : Refusal} → outcomeOf 1 p ≡ Refused x → IsText p q (refusalText x)
-  rule-refused-text h = refused-table 1 p h (λ p x. IsText p q (refusalText x)) (λ e n. refl)
-
-  module _ {f : Formula} (g : p ≡ accepted f) where
-    pub take-refused-text : {x : Refusal} → outcomeOf 2 q ≡ Refused x → IsText p q (refusalText x)
-    take-refused-text {x} h = subst⁻¹ (λ p. IsText p q (refusalText x)) g (refused-table 2 q h (λ q x. IsText (accepted f) q (refusalText x)) (λ e n. refl))
-
-    pub pair-text : {t : Trace} → q ≡ accepted t → (text : List ℕ) → IsPairText (eqb (f .signals) (t .signals)) f t text → IsText p q text
-    pair-text h text x = subst⁻¹ (λ p. IsText p q text) g (subst⁻¹ (λ q. IsText (accepted f) q text) h x)

@@ -8,9 +8,9 @@ use Rattle.tables.specs.declared.refusal.Reason.the-variants.{SignalsDiffer}
 use Rattle.tables.specs.declared.row.Formula.{Formula}
 use Rattle.tables.specs.declared.trace.Trace.{Trace}
 use Rattle.text.specs.Result.{Result}
-use Rattle.text.specs.Result.Result.{accepted, refused}
 use Rattle.rule_file.specs.Rule.{parseRule}
 use Rattle.take_file.specs.Take.{parseTake}
+use Rattle.rule_and_take.specs.File.{OnPair}
 use Rattle.normal_form.specs.declared.sign.Sign.the-variants.{Plain}
 use Rattle.normal_form.specs.Numbering.{normalForm}
 use Rattle.writing.specs.declared.answer.Bytes.{Bytes}
@@ -30,11 +30,9 @@ abbrev pub IsPairText : Bool → Formula → Trace → List ℕ → Type 0
 IsPairText true f t text = IsVerdictText f t text
 IsPairText false f t text = text ≡ refusalText (record { reason = SignalsDiffer; file = 0; line = 0 })
 
--- "Files go rule, take"; "file (1 rule, 2 take, 3 sheet)"
+-- a file that is turned back, or two tables
 abbrev pub IsText : Result Formula → Result Trace → List ℕ → Type 0
-IsText (refused e n) take text = text ≡ refusalText (record { reason = e; file = 1; line = n })
-IsText (accepted f) (refused e n) text = text ≡ refusalText (record { reason = e; file = 2; line = n })
-IsText (accepted f) (accepted t) text = IsPairText (eqb (f .signals) (t .signals)) f t text
+IsText p q text = OnPair p q (λ why. text ≡ refusalText why) (λ f t. IsPairText (eqb (f .signals) (t .signals)) f t text)
 
 -- the text goes into the buffer whole, or nothing does
 pub record Prints (rule take before after : List ℕ) (answer : Bytes) : Type 0 where

@@ -47,18 +47,11 @@ fn put_text(buf: &mut [u8], rule: &[u8], take: &[u8]) -> usize
     requires { ⌜ 64 ≤ length (now buf) ⌝ }
     ensures { λ r. ⌜ ((text : List ℕ) × IsText (parseRule (now (rule .entry))) (parseTake (now (take .entry))) text × Wrote (now (buf .entry)) 0 text (now (buf .exit)) r) ⌝ }
 {
-    let first = rule_file::rule::read_rule(rule);
-    let outcome = first.outcome;
+    let pair = rule_and_take::read_pair(rule, take);
+    let outcome = pair.outcome;
     match outcome {
         Outcome::Refused(refusal) => writing::line::put_refusal(buf, 0, refusal),
-        Outcome::Accepted => {
-            let second = take_file::take::read_take(take);
-            let other = second.outcome;
-            match other {
-                Outcome::Refused(refusal) => writing::line::put_refusal(buf, 0, refusal),
-                Outcome::Accepted => put_pair(buf, first.formula, second.trace),
-            }
-        }
+        Outcome::Accepted => put_pair(buf, pair.formula, pair.trace),
     }
 }
 

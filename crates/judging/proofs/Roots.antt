@@ -1,5 +1,5 @@
 -- What is found at the root is what the verdicts speak of. Assumes nothing.
-use Prim.Native.Nat.{ℕ, suc, _-_, _≤_, _<_}
+use Prim.Native.Nat.{ℕ, suc, _-_}
 use mathlib.Core.Path.{_≡_, refl, sym, ap, subst, _∙_}
 use mathlib.Core.Logic.{_↔_}
 use mathlib.Core.Bool.{Bool, true, false}
@@ -23,7 +23,7 @@ use Rattle.normal_form.proofs.Demand.{satisfied-alike}
 use Rattle.truth.specs.Truth.{lineIn, TrueIn, TrueAt, Filled}
 use Rattle.row_lines.proofs.Passes.{shown-bit}
 use Rattle.judging.specs.declared.verdict.Verdict.the-variants.{Holds, Breaks, Kept, Broken, Open}
-use Rattle.judging.specs.Verdict.{IsKept, IsBroken, VerdictOf}
+use Rattle.judging.specs.Verdict.{VerdictOf}
 use Rattle.judging.proofs.Verdicts.{kept-not-broken, holds-verdict, breaks-verdict, kept-verdict, broken-verdict, open-verdict}
 
 -- the root's line at the first cycle

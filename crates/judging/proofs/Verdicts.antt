@@ -2,7 +2,7 @@
 use Prim.Native.Nat.{ℕ, suc, _≤_, _<_}
 use mathlib.Core.Path.{_≡_, refl, sym, ap, subst, _∙_}
 use mathlib.Core.Logic.{_↔_}
-use mathlib.Core.Bool.{Bool, true, false}
+use mathlib.Core.Bool.{true}
 use native.Mathlib.Omega.{arith}
 use Rattle.tables.specs.declared.row.Formula.{Formula}
 use Rattle.tables.specs.declared.row.NormalForm.{NormalForm}
@@ -13,10 +13,9 @@ use Rattle.rule_file.specs.Valid.{InRange as FormulaInRange}
 use Rattle.take_file.specs.Valid.{InRange as TraceInRange}
 use Rattle.meaning.specs.Reading.{classical}
 use Rattle.meaning.specs.Trace.{InfiniteTrace, signalAt, unrolled, Extends}
-use Rattle.meaning.specs.Satisfaction.{Table, tableOf, Satisfies, SatisfiesNormal}
+use Rattle.meaning.specs.Satisfaction.{tableOf, Satisfies, SatisfiesNormal}
 use Rattle.meaning.specs.Informative.{Informative}
-use Rattle.meaning.proofs.Readings.{on-and-off}
-use Rattle.meaning.proofs.Rows.{EachSignal, each-signal, each-signal-map}
+use Rattle.meaning.proofs.Rows.{each-signal, each-signal-map}
 use Rattle.meaning.proofs.Locality.{SameSignals}
 use Rattle.meaning.proofs.StrongTruth.{strong-true, extends-same}
 use Rattle.meaning.proofs.Informative.{informative-strong}
@@ -27,10 +26,9 @@ use Rattle.normal_form.specs.Numbering.{normalForm}
 use Rattle.normal_form.proofs.Ranges.{form-normal}
 use Rattle.normal_form.proofs.FormTables.{form-ordered, form-positive, form-signals}
 use Rattle.normal_form.proofs.Demand.{satisfied-alike, satisfied-opposite}
-use Rattle.truth.specs.Truth.{TrueIn, TrueAt}
 use Rattle.judging.specs.declared.verdict.Verdict.{Verdict}
 use Rattle.judging.specs.declared.verdict.Verdict.the-variants.{Holds, Breaks, Kept, Broken, Open}
-use Rattle.judging.specs.Verdict.{StronglyTrue, IsKept, IsBroken, SaysOf, Says, VerdictOf}
+use Rattle.judging.specs.Verdict.{StronglyTrue, IsKept, IsBroken, SaysOf, VerdictOf}
 
 module _ (f : Formula) (t : Trace) (range : FormulaInRange f) (some-cycles : 1 ≤ t .cycles) where
   -- ---- strong truth lasts

@@ -1,3 +1,3 @@
 pub mod Codes
-pub mod Files
 pub mod Lengths
+pub mod OneAnswer

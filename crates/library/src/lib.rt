@@ -1,7 +1,7 @@
 // The services for programs in C and Rust (include/citronhelm.h): files in as bytes, an answer out as one number, and output into a
 // lent buffer. No state, nothing asked of the caller. A slice passes as a pointer and a length.
 ghost use mathlib.Core.Path.{_≡_};
-ghost use Prim.Native.Nat.{_+_, _*_};
+ghost use Prim.Native.Nat.{_*_};
 ghost use Rattle.text.specs.Result.{outcomeOf};
 ghost use Rattle.rule_file.specs.Rule.{parseRule};
 ghost use Rattle.take_file.specs.Take.{parseTake};
@@ -10,16 +10,14 @@ ghost use Rattle.normal_form.specs.Numbering.{normalForm};
 ghost use Rattle.normal_form.specs.declared.sign.Sign.the-variants.{Plain};
 ghost use Rattle.normal_file.specs.Answer.{boundAnswer, normalAnswer, normalLeft};
 ghost use Rattle.judging.specs.Refusals.{loopedOutcome, openOutcome, pairOutcome};
-ghost use Rattle.judge_text.specs.Answer.{Prints};
 ghost use Rattle.step.specs.Step.{stepAnswer, stepLeft};
 ghost use Rattle.library.specs.Code.{bytesCode, outcomeCode, refusalCode, signOf};
-ghost use Rattle.library.specs.File.{OnFile, OnPair};
+ghost use Rattle.rule_and_take.specs.File.{OnFile, OnPair};
 ghost use Rattle.library.specs.Service.{CheckedAs, JudgedAs, MadeAs, PrintedAs, Turned};
 use normal_form::sign::Sign;
 use tables::refusal::Outcome;
 
 pub mod code;
-pub mod pair;
 
 // Whether a file is a rule file, a take file, a sheet file.
 #[no_mangle]
@@ -99,7 +97,7 @@ pub extern "C" fn citronhelm_normal(rule: &[u8], negated: u8, output: &mut [u8])
 pub extern "C" fn citronhelm_judge(rule: &[u8], take: &[u8]) -> u64
     ensures { λ r. ⌜ OnPair (parseRule (now (rule .entry))) (parseTake (now (take .entry))) (λ why. r ≡ refusalCode why) (λ f t. JudgedAs (pairOutcome f t) f t r) ⌝ }
 {
-    let pair = pair::read_pair(rule, take);
+    let pair = rule_and_take::read_pair(rule, take);
     let outcome = pair.outcome;
     match outcome {
         Outcome::Refused(refusal) => code::refusal_code(refusal),
@@ -111,7 +109,7 @@ pub extern "C" fn citronhelm_judge(rule: &[u8], take: &[u8]) -> u64
 pub extern "C" fn citronhelm_judge_looped(rule: &[u8], take: &[u8]) -> u64
     ensures { λ r. ⌜ OnPair (parseRule (now (rule .entry))) (parseTake (now (take .entry))) (λ why. r ≡ refusalCode why) (λ f t. JudgedAs (loopedOutcome f t) f t r) ⌝ }
 {
-    let pair = pair::read_pair(rule, take);
+    let pair = rule_and_take::read_pair(rule, take);
     let outcome = pair.outcome;
     match outcome {
         Outcome::Refused(refusal) => code::refusal_code(refusal),
@@ -123,7 +121,7 @@ pub extern "C" fn citronhelm_judge_looped(rule: &[u8], take: &[u8]) -> u64
 pub extern "C" fn citronhelm_judge_open(rule: &[u8], take: &[u8]) -> u64
     ensures { λ r. ⌜ OnPair (parseRule (now (rule .entry))) (parseTake (now (take .entry))) (λ why. r ≡ refusalCode why) (λ f t. JudgedAs (openOutcome f t) f t r) ⌝ }
 {
-    let pair = pair::read_pair(rule, take);
+    let pair = rule_and_take::read_pair(rule, take);
     let outcome = pair.outcome;
     match outcome {
         Outcome::Refused(refusal) => code::refusal_code(refusal),
@@ -169,7 +167,7 @@ pub extern "C" fn citronhelm_step(
 pub extern "C" fn citronhelm_make_sheet(rule: &[u8], take: &[u8], output: &mut [u8]) -> u64
     ensures { λ r. ⌜ OnPair (parseRule (now (rule .entry))) (parseTake (now (take .entry))) (Turned (now (output .entry)) (now (output .exit)) r) (λ f t. MadeAs f t (now (output .entry)) (now (output .exit)) r) ⌝ }
 {
-    let pair = pair::read_pair(rule, take);
+    let pair = rule_and_take::read_pair(rule, take);
     let outcome = pair.outcome;
     match outcome {
         Outcome::Refused(refusal) => code::refusal_code(refusal),
@@ -186,7 +184,7 @@ pub extern "C" fn citronhelm_make_sheet(rule: &[u8], take: &[u8], output: &mut [
 pub extern "C" fn citronhelm_check_sheet(rule: &[u8], take: &[u8], sheet: &[u8]) -> u64
     ensures { λ r. ⌜ OnPair (parseRule (now (rule .entry))) (parseTake (now (take .entry))) (λ why. r ≡ refusalCode why) (λ f t. OnFile 3 (parseSheet (now (sheet .entry))) (λ why. r ≡ refusalCode why) (λ a. CheckedAs f t a r)) ⌝ }
 {
-    let pair = pair::read_pair(rule, take);
+    let pair = rule_and_take::read_pair(rule, take);
     let outcome = pair.outcome;
     match outcome {
         Outcome::Refused(refusal) => code::refusal_code(refusal),

@@ -11,7 +11,7 @@ use Rattle.tables.specs.declared.trace.Ending.{Ending}
 use Rattle.tables.specs.declared.trace.Ending.the-variants.{Open, Loop}
 use Rattle.tables.specs.declared.trace.Trace.{Trace}
 use Rattle.meaning.specs.Reading.{classical, Some}
-use Rattle.meaning.specs.Trace.{InfiniteTrace, signalAt, position, unrolled}
+use Rattle.meaning.specs.Trace.{signalAt, position, unrolled}
 use Rattle.meaning.specs.Satisfaction.{tableOf}
 use Rattle.monitors.specs.declared.Output.{Output}
 use Rattle.monitors.specs.Run.{Activators, output}

@@ -14,7 +14,7 @@ use Rattle.tables.specs.declared.trace.Ending.the-variants.{Open, Loop}
 use Rattle.tables.proofs.Bits.{line-ext}
 use Rattle.take_file.specs.Valid.{Below as LoopBelow}
 use Rattle.row_lines.specs.Run.{Shows, bitBehind}
-use Rattle.row_lines.proofs.Passes.{cut, cut-same, cut-ends, shown-bit}
+use Rattle.row_lines.proofs.Passes.{cut, shown-bit}
 
 -- what is entered behind the last cycle, read off a line
 pub behind-shown : (n : ℕ) (line : Line) (f : ℕ → Bool) (ending : Ending) → n ≤ 256 → Shows n line f → LoopBelow n ending → bitBehind (bitAt line) ending ≡ bitBehind f ending

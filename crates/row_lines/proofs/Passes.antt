@@ -1,6 +1,6 @@
 -- One pass over an open take, two over a lasso. Assumes nothing.
-use Prim.Native.Nat.{ℕ, suc, _+_, _-_, _≤_, _<_}
-use mathlib.Core.Path.{_≡_, refl, sym, ap, _∙_}
+use Prim.Native.Nat.{ℕ, _-_, _≤_, _<_}
+use mathlib.Core.Path.{_≡_, sym, ap, _∙_}
 use mathlib.Core.Bool.{Bool, true, false, _&&_}
 use native.Mathlib.Decide.{decLt}
 use native.Mathlib.Omega.{arith}
@@ -14,7 +14,7 @@ use Rattle.tables.proofs.Bits.{bit-of-line, line-ext}
 use Rattle.meaning.proofs.Streams.{approximant, approximant-local}
 use Rattle.lines.specs.Word.{Ends}
 use Rattle.take_file.specs.Valid.{Below as LoopBelow}
-use Rattle.row_lines.specs.Run.{Shows, bitBehind, untilBehind}
+use Rattle.row_lines.specs.Run.{Shows}
 use Rattle.row_lines.specs.Pass.{untilPass}
 
 -- f at the first n cycles alone

@@ -1,17 +1,15 @@
 -- Rule files and their written form: a formula that is written is read back, and only the written form of a formula is read.
 -- Assumes nothing.
 use mathlib.Core.Path.{_≡_, refl, sym, ap, _∙_, subst}
-use mathlib.Core.Bool.{Bool, true, false}
-use mathlib.Core.List.{List, [], _∷_, _++_, map}
+use mathlib.Core.Bool.{true}
+use mathlib.Core.List.{List, [], _∷_, map}
 use Prim.Native.Nat.{ℕ, zero, suc, _+_, _*_, _≤_, _<_}
 use native.Mathlib.Omega.{arith}
 use lib.Dec.{ltb}
 use lib.ListN.{length, getD, take, length-append, length-take, length-map}
 use borrow.Author.Tests.{le-ltb}
-use Rattle.tables.specs.Choice.{pick}
 use Rattle.tables.specs.Bytes.{bytes}
-use Rattle.tables.specs.Kind.{kindAt, wordOf, placeOf}
-use Rattle.tables.specs.Place.{placed}
+use Rattle.tables.specs.Kind.{placeOf}
 use Rattle.tables.proofs.KindTable.{word-short, kind-of-row}
 use Rattle.tables.proofs.Places.{length-tabulate, take-placed}
 use Rattle.tables.specs.declared.refusal.Outcome.{Outcome}

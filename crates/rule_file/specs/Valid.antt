@@ -1,9 +1,8 @@
 -- Formulas that a rule file can hold. Assumes nothing.
-use Prim.Native.Nat.{ℕ, _≤_}
+use Prim.Native.Nat.{_≤_}
 use mathlib.Core.Bool.{true}
 use mathlib.Core.Path.{_≡_}
 use Rattle.tables.specs.Place.{placed}
-use Rattle.tables.specs.declared.row.Row.{Row}
 use Rattle.tables.specs.declared.row.Formula.{Formula}
 use Rattle.text.specs.Body.{EachAt}
 use Rattle.rule_row.specs.Row.{inRange}

@@ -5,18 +5,17 @@ use mathlib.Core.List.{List, [], _∷_, _++_, append-nil}
 use Prim.Native.Nat.{ℕ, zero, suc, _+_, _≤_, _<_}
 use native.Mathlib.Omega.{arith}
 use lib.Dec.{eqb}
-use lib.ListN.{length, getD, take, drop}
+use lib.ListN.{take, drop}
 use borrow.Author.Tests.{eqb-true}
 use Rattle.tables.specs.Choice.{pick}
 use Rattle.tables.specs.Bytes.{sameBytes}
 use Rattle.tables.specs.Kind.{kinds, kindAt, noKind, wordOf, placeOf, withNumbers, numbersIn, firstNumber, secondNumber}
 use Rattle.tables.specs.declared.kind.Kind.{Kind}
-use Rattle.tables.specs.declared.refusal.Reason.{Reason}
 use Rattle.tables.specs.declared.refusal.Reason.the-variants.{BadReference}
 use Rattle.tables.specs.declared.row.Row.{Row}
 use Rattle.tables.specs.declared.row.Row.the-variants.{Constant, Signal, Unary, Binary}
 use Rattle.tables.proofs.KindTable.{below, place-of-kind, kind-of-row, numbers-again, numbers-own, numbers-count, numbers-place}
-use Rattle.text.specs.Search.{firstWhere, further, firstOf, onFound}
+use Rattle.text.specs.Search.{firstWhere, further, firstOf}
 use Rattle.text.specs.Number.{numberOf}
 use Rattle.text.specs.Result.{Parsed, onParsed}
 use Rattle.text.specs.Result.Parsed.{good, bad}
@@ -24,11 +23,11 @@ use Rattle.text.specs.Written.{decimal}
 use Rattle.text.specs.declared.search.Found.{Found}
 use Rattle.text.specs.declared.search.Found.the-variants.{At, Nothing}
 use Rattle.text.specs.declared.number.Number.the-variants.{Is}
-use Rattle.text.proofs.Searching.{clash, hit, each-found, each-pick, same-eq, pick-both}
+use Rattle.text.proofs.Searching.{clash, hit, each-found, each-pick, same-eq}
 use Rattle.text.proofs.Numbers.{number-written, number-read, each-number}
 use Rattle.text.proofs.Lines.{Free, free-append, first-at, first-free, cut-front, cut-behind, cut-found, no-digit-below, free-decimal}
 use Rattle.text.proofs.Headers.{lacks, free, free-below, decimal-inj}
-use Rattle.rule_row.specs.Row.{kindNamed, formOf, rowForm, isSignal, isOperand, inRange, rowValue}
+use Rattle.rule_row.specs.Row.{kindNamed, formOf, rowForm, inRange, rowValue}
 use Rattle.rule_row.specs.Written.{numbersText, writtenRow}
 use Rattle.rule_row.proofs.RowValues.{form-counted, numbers-below}
 

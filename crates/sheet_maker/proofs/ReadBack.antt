@@ -1,6 +1,6 @@
 -- What the sheet maker writes is read as a sheet with the same digits. Assumes nothing.
-use Prim.Native.Nat.{ℕ, _-_, _≤_, _<_, min}
-use mathlib.Core.Path.{_≡_, refl, sym, ap, _∙_}
+use Prim.Native.Nat.{ℕ, _-_, _<_, min}
+use mathlib.Core.Path.{_≡_, sym, ap, _∙_}
 use mathlib.Core.Bool.{Bool, true, false}
 use mathlib.Core.List.{List, []}
 use native.Mathlib.Omega.{arith}
@@ -20,7 +20,6 @@ use Rattle.sheet_file.specs.Written.{rowsOf, writtenSheet}
 use Rattle.sheet_file.proofs.Sheets.{in-range}
 use Rattle.normal_form.specs.Form.{InNormalForm}
 use Rattle.truth.specs.Truth.{lineIn}
-use Rattle.monitors.specs.Sheet.{activatorAt, IsRow}
 use Rattle.sheet_maker.specs.Made.{IsMade}
 use Rattle.sheet_maker.proofs.Sheets.{rows-by-place}
 

@@ -1,14 +1,11 @@
 -- The text of `sheet` by its cases. Assumes nothing.
-use Prim.Native.Nat.{ℕ, _-_}
+use Prim.Native.Nat.{_-_}
 use mathlib.Core.Path.{_≡_, refl, ap, subst⁻¹, _∙_}
 use mathlib.Core.Logic.{_↔_}
 use mathlib.Core.Bool.{Bool, true, false}
-use mathlib.Core.List.{List}
 use lib.Dec.{eqb}
 use borrow.Author.Tests.{eq-eqb, ne-eqb}
 use Rattle.tables.specs.declared.refusal.Reason.the-variants.{SignalsDiffer}
-use Rattle.tables.specs.declared.refusal.Refusal.{Refusal}
-use Rattle.tables.specs.declared.refusal.Outcome.the-variants.{Refused}
 use Rattle.tables.specs.declared.row.Formula.{Formula}
 use Rattle.tables.specs.Bit.{bitAt}
 use Rattle.tables.specs.declared.trace.Activation.{Activation}
@@ -20,13 +17,10 @@ use Rattle.meaning.proofs.Readings.{on-and-off}
 use Rattle.truth.specs.Truth.{lineIn}
 use Rattle.sheet_maker.specs.Made.{Satisfied, IsMade}
 use Rattle.sheet_maker.proofs.Sheets.{made-root}
-use Rattle.text.specs.Result.{Result, outcomeOf}
-use Rattle.text.specs.Result.Result.{accepted}
-use Rattle.text.proofs.Answered.{refused-table}
 use Rattle.normal_form.specs.declared.sign.Sign.the-variants.{Plain}
 use Rattle.normal_form.specs.Numbering.{normalForm}
 use Rattle.writing.specs.Refusal.{refusalText}
-use Rattle.sheet_text.specs.Answer.{noneText, IsMadeText, IsMadeText.sheet, IsMadeText.none, IsPairText, IsText}
+use Rattle.sheet_text.specs.Answer.{noneText, IsMadeText.sheet, IsMadeText.none, IsPairText}
 
 -- ---- two tables
 
@@ -43,15 +37,3 @@ module _ (f : Formula) (t : Trace) where
 
     pub none-text : b ≡ false → IsPairText (eqb (f .signals) (t .signals)) f t noneText
     none-text n = subst⁻¹ (λ b. IsPairText b f t noneText) (eq-eqb (f .signals) (t .signals) same) (none (λ x. on-and-off (root .1 x) n) refl)
-
--- ---- two files
-module _ (p : Result Formula) (q : Result Trace) where
-  pub rule-refused-text : {x : Refusal} → outcomeOf 1 p ≡ Refused x → IsText p q (refusalText x)
-  rule-refused-text h = refused-table 1 p h (λ p x. IsText p q (refusalText x)) (λ e n. refl)
-
-  module _ {f : Formula} (g : p ≡ accepted f) where
-    pub take-refused-text : {x : Refusal} → outcomeOf 2 q ≡ Refused x → IsText p q (refusalText x)
-    take-refused-text {x} h = subst⁻¹ (λ p. IsText p q (refusalText x)) g (refused-table 2 q h (λ q x. IsText (accepted f) q (refusalText x)) (λ e n. refl))
-
-    pub pair-text : {t : Trace} → q ≡ accepted t → (text : List ℕ) → IsPairText (eqb (f .signals) (t .signals)) f t text → IsText p q text
-    pair-text h text x = subst⁻¹ (λ p. IsText p q text) g (subst⁻¹ (λ q. IsText (accepted f) q text) h x)

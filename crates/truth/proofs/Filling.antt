@@ -1,14 +1,13 @@
 -- The lines of all rows, one after the other, and that they tell the truth. Assumes nothing.
 use Prim.Native.Nat.{ℕ, suc, _+_, _-_, _≤_, _<_}
-use mathlib.Core.Path.{_≡_, refl, sym, ap, subst, subst⁻¹, _∙_}
-use mathlib.Core.Logic.{_↔_, Iff·trans}
-use mathlib.Core.Bool.{Bool, true, _&&_}
+use mathlib.Core.Path.{_≡_, sym, ap, subst, _∙_}
+use mathlib.Core.Logic.{_↔_}
+use mathlib.Core.Bool.{Bool, _&&_}
 use mathlib.Core.List.{List, []}
 use native.Mathlib.Decide.{ℕ-discrete}
 use native.Mathlib.Omega.{arith}
-use lib.ListN.{length, getD, set, length-set}
+use lib.ListN.{length, set, length-set}
 use lib.Seq.{getD-set-same, getD-set-other}
-use lib.Dec.{ltb}
 use borrow.Author.Tests.{le-ltb, lt-ltb}
 use Rattle.tables.specs.declared.row.Row.{Row}
 use Rattle.tables.specs.declared.row.NormalForm.{NormalForm}
@@ -16,14 +15,13 @@ use Rattle.tables.specs.declared.trace.Ending.{Ending}
 use Rattle.tables.specs.declared.trace.Ending.the-variants.{Open, Loop}
 use Rattle.tables.specs.declared.trace.Line.{Line}
 use Rattle.tables.specs.declared.trace.Trace.{Trace}
-use Rattle.take_file.specs.Valid.{Below as LoopBelow, InRange}
+use Rattle.take_file.specs.Valid.{Below as LoopBelow}
 use Rattle.meaning.specs.Reading.{classical}
-use Rattle.meaning.specs.Trace.{InfiniteTrace, position, signalAt}
+use Rattle.meaning.specs.Trace.{InfiniteTrace, signalAt}
 use Rattle.meaning.specs.Satisfaction.{Table, tableOf, RowTrue}
-use Rattle.meaning.specs.Strong.{RowStronglyTrue}
 use Rattle.meaning.proofs.Truth.{everyCycle}
 use Rattle.meaning.proofs.Readings.{On}
-use Rattle.meaning.proofs.Rows.{Each, each-map, Ordered, Positive}
+use Rattle.meaning.proofs.Rows.{Each, each-map, Ordered}
 use Rattle.meaning.proofs.Periodic.{position-first}
 use Rattle.meaning.proofs.Evaluation.{bitsWithin, bitsOf, bits-computed}
 use Rattle.meaning.proofs.PatternBits.{rowBit}
@@ -36,7 +34,7 @@ use Rattle.lines.specs.Word.{Ends}
 use Rattle.row_lines.specs.Run.{Shows}
 use Rattle.row_lines.specs.Pass.{rowPass}
 use Rattle.truth.specs.Truth.{lineIn, TrueIn, Tells}
-use Rattle.row_lines.proofs.Passes.{cut, shows-alike}
+use Rattle.row_lines.proofs.Passes.{shows-alike}
 use Rattle.truth.proofs.Matches.{row-lasso, row-prefix}
 
 module _ (n : ℕ) (ending : Ending) (signals : ℕ → ℕ → Bool) (t : Table) (m : ℕ) where

@@ -7,14 +7,11 @@ use tables::trace::Ending;
 use tables::trace::Line;
 use tables::trace::Trace;
 ghost use mathlib.Core.Path.{_≡_};
-ghost use mathlib.Core.Bool.{Bool};
-ghost use Prim.Native.Nat.{ℕ, _-_, _≤_};
-ghost use Rattle.meaning.proofs.Rows.{Each, EachSignal};
+ghost use Prim.Native.Nat.{_-_, _≤_};
 ghost use Rattle.normal_form.specs.Form.{InNormalForm};
 ghost use Rattle.take_file.specs.Valid.{Below as LoopBelow, InRange};
-ghost use Rattle.row_lines.specs.Run.{RunOf, Shows};
-ghost use Rattle.row_lines.specs.Pass.{rowPass};
-ghost use Rattle.truth.specs.Truth.{Filled, bitIn, lineIn};
+ghost use Rattle.row_lines.specs.Run.{RunOf};
+ghost use Rattle.truth.specs.Truth.{Filled};
 
 // A line for each row: line k is that of row k + 1.
 pub struct Truth {

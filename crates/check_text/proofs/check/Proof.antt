@@ -1,4 +1,4 @@
-use mathlib.Core.Path.{_≡_, sym, _∙_}
+use mathlib.Core.Path.{sym, _∙_}
 use lib.Seq.{length-take-le}
 use Rattle.text.proofs.Searching.{know}
 use Rattle.writing.proofs.Texts.{wrote-within, wrote-start}

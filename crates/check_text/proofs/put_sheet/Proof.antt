@@ -1,7 +1,8 @@
+use mathlib.Core.Path.{refl}
 use native.Mathlib.Omega.{arith}
 use Rattle.sheet_file.specs.Sheet.{parseSheet}
 use Rattle.sheet_file.proofs.Sheets.{sheet-outcome-line, sheet-said, sheet-is}
-use Rattle.check_text.proofs.Answers.{sheet-refused-text, tables-text}
+use Rattle.rule_and_take.proofs.Files.{file-refused, file-read}
 use borrow.Author.Needs.{needs}
 use Rattle.check_text.proofs.put_sheet.Statement.{statement}
 use Rattle.check_text.proofs.put_sheet.Tie as tie
@@ -10,10 +11,10 @@ put-refusal-requires : tie.Need-put-refusal-requires
 put-refusal-requires c κs = (search needs, omega (arith, sheet-outcome-line _ _ (sheet-said (parseSheet (c .before .before .before .before .before .before .before .args .sheet .now)) (c .before .before .before .before .read-sheet .result) (c .before .before .before .before .read-sheet .ensures) (c .before .before .outcome .given .1))))
 
 returns : tie.Need-returns
-returns c = let s = parseSheet (c .before .before .before .before .before .before .before .before .before .before .args .sheet .now) in (_, sheet-refused-text (c .before .before .before .before .before .before .before .before .before .before .args .formula) (c .before .before .before .before .before .before .before .before .before .before .args .trace) s (sheet-said s (c .before .before .before .before .before .before .before .read-sheet .result) (c .before .before .before .before .before .before .before .read-sheet .ensures) (c .before .before .before .before .before .outcome .given .1)), c .before .before .put-refusal .ensures .0)
+returns c = let s = parseSheet (c .before .before .before .before .before .before .before .before .before .before .args .sheet .now) in (_, file-refused 3 s _ _ (sheet-said s (c .before .before .before .before .before .before .before .read-sheet .result) (c .before .before .before .before .before .before .before .read-sheet .ensures) (c .before .before .before .before .before .outcome .given .1)) refl, c .before .before .put-refusal .ensures .0)
 
 returns-2 : tie.Need-returns-2
-returns-2 c = let s = parseSheet (c .before .before .before .before .before .before .before .before .before .args .sheet .now) in let x = c .before .before .put-tables .ensures in (x .0, tables-text (c .before .before .before .before .before .before .before .before .before .args .formula) (c .before .before .before .before .before .before .before .before .before .args .trace) s (sheet-is s (c .before .before .before .before .before .before .read-sheet .result) (c .before .before .before .before .before .before .read-sheet .ensures) (c .before .before .before .before .enum-told .given .1)) (x .0) (x .1), x .2)
+returns-2 c = let s = parseSheet (c .before .before .before .before .before .before .before .before .before .args .sheet .now) in let x = c .before .before .put-tables .ensures in (x .0, file-read 3 s _ _ (sheet-is s (c .before .before .before .before .before .before .read-sheet .result) (c .before .before .before .before .before .before .read-sheet .ensures) (c .before .before .before .before .enum-told .given .1)) (x .1), x .2)
 
 pub put-sheet-spec : {M : Type 1} → statement M
 put-sheet-spec =

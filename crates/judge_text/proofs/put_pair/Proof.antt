@@ -1,4 +1,4 @@
-use mathlib.Core.Path.{_≡_, refl, sym, ap, _∙_}
+use mathlib.Core.Path.{sym}
 use native.Mathlib.Omega.{arith}
 use Rattle.judge_text.proofs.Answers.{below-more, differ-text, judged-text}
 use borrow.Author.Needs.{needs}

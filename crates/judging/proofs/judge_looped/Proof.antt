@@ -1,4 +1,4 @@
-use mathlib.Core.Path.{_≡_, refl, sym, ap, subst, _∙_}
+use mathlib.Core.Path.{_≡_, refl, sym, ap, _∙_}
 use borrow.Author.Needs.{needs}
 use Rattle.judging.proofs.judge_looped.Statement.{statement}
 use Rattle.judging.proofs.judge_looped.Tie as tie

@@ -1,9 +1,8 @@
-use mathlib.Core.Path.{_≡_}
 use Rattle.rule_file.specs.Rule.{parseRule}
 use Rattle.take_file.specs.Take.{parseTake}
 use Rattle.sheet_file.specs.Sheet.{parseSheet}
 use Rattle.sheet_file.proofs.Sheets.{sheet-said, sheet-is}
-use Rattle.library.proofs.Files.{file-refused, file-read, pair-refused, pair-read}
+use Rattle.rule_and_take.proofs.Files.{file-refused, file-read, pair-refused, pair-read}
 use borrow.Author.Needs.{needs}
 use Rattle.library.proofs.citronhelm_check_sheet.Statement.{statement}
 use Rattle.library.proofs.citronhelm_check_sheet.Tie as tie

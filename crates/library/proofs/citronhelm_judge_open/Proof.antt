@@ -1,7 +1,6 @@
-use mathlib.Core.Path.{_≡_}
 use Rattle.rule_file.specs.Rule.{parseRule}
 use Rattle.take_file.specs.Take.{parseTake}
-use Rattle.library.proofs.Files.{pair-refused, pair-read}
+use Rattle.rule_and_take.proofs.Files.{pair-refused, pair-read}
 use borrow.Author.Needs.{needs}
 use Rattle.library.proofs.citronhelm_judge_open.Statement.{statement}
 use Rattle.library.proofs.citronhelm_judge_open.Tie as tie

@@ -1,4 +1,4 @@
-use mathlib.Core.Path.{_≡_, ap, _∙_}
+use mathlib.Core.Path.{ap, _∙_}
 use Rattle.rule_file.specs.declared.rule.RuleAnswer.{RuleAnswer}
 use Rattle.library.specs.Code.{outcomeCode}
 use borrow.Author.Needs.{needs}

@@ -1,4 +1,4 @@
-use mathlib.Core.Path.{_≡_, ap, _∙_}
+use mathlib.Core.Path.{ap, _∙_}
 use Rattle.take_file.specs.declared.take.TakeAnswer.{TakeAnswer}
 use Rattle.library.specs.Code.{outcomeCode}
 use borrow.Author.Needs.{needs}

@@ -1,8 +1,8 @@
-use mathlib.Core.Path.{_≡_, ap}
+use mathlib.Core.Path.{ap}
 use Rattle.rule_file.specs.Rule.{parseRule}
 use Rattle.rule_file.proofs.Rules.{rule-read, rule-said, rule-is}
 use Rattle.tables.specs.declared.row.NormalForm.{NormalForm}
-use Rattle.library.proofs.Files.{file-refused, file-read}
+use Rattle.rule_and_take.proofs.Files.{file-refused, file-read}
 use borrow.Author.Needs.{needs}
 use Rattle.library.proofs.citronhelm_rows.Statement.{statement}
 use Rattle.library.proofs.citronhelm_rows.Tie as tie

@@ -1,4 +1,3 @@
-use mathlib.Core.Path.{_≡_, sym}
 use borrow.Author.Needs.{needs}
 use Rattle.monitors.proofs.constant.Statement.{statement}
 use Rattle.monitors.proofs.constant.Tie as tie

@@ -1,4 +1,3 @@
-use mathlib.Core.Path.{_≡_, sym}
 use borrow.Author.Needs.{needs}
 use Rattle.monitors.proofs.signal.Statement.{statement}
 use Rattle.monitors.proofs.signal.Tie as tie

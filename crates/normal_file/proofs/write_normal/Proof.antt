@@ -1,9 +1,7 @@
 use Prim.Native.Nat.{_+_, _≤_}
-use mathlib.Core.Path.{_≡_, refl, sym, ap, _∙_}
-use native.Mathlib.Omega.{arith}
+use mathlib.Core.Path.{refl, sym, ap, _∙_}
 use lib.ListN.{length}
 use lib.Seq.{length-take-le}
-use Rattle.tables.specs.declared.row.NormalForm.{NormalForm}
 use Rattle.text.proofs.Searching.{know}
 use Rattle.normal_form.proofs.Ranges.{form-normal}
 use Rattle.writing.specs.Normal.{writtenNormal}

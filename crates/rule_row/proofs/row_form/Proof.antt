@@ -1,6 +1,6 @@
-use mathlib.Core.Path.{_∙_, sym}
+use mathlib.Core.Path.{_∙_}
 use native.Mathlib.Omega.{arith}
-use lib.ListN.{length-take, length-drop}
+use lib.ListN.{length-take}
 use Rattle.text.proofs.Searching.{know, found, rest-part}
 use Rattle.rule_row.specs.Row.{rowForm}
 use borrow.Author.Needs.{needs}

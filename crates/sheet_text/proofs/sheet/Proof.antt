@@ -1,9 +1,5 @@
-use mathlib.Core.Path.{_≡_, refl, sym, ap, _∙_}
-use native.Mathlib.Omega.{arith}
-use lib.ListN.{length}
-use lib.Dec.{leb}
+use mathlib.Core.Path.{sym, _∙_}
 use lib.Seq.{length-take-le}
-use Rattle.tables.specs.Choice.{pick}
 use Rattle.text.proofs.Searching.{know}
 use Rattle.writing.proofs.Texts.{wrote-within, wrote-start}
 use Rattle.writing.proofs.Answers.{fits-answer, short-answer, text-left}

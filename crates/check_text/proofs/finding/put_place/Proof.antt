@@ -1,4 +1,3 @@
-use native.Mathlib.Omega.{arith}
 use mathlib.Core.Path.{subst}
 use Rattle.tables.specs.Bytes.{bytes}
 use Rattle.text.specs.Written.{decimal}

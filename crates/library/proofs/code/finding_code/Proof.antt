@@ -1,4 +1,4 @@
-use mathlib.Core.Path.{_≡_, sym, ap}
+use mathlib.Core.Path.{sym, ap}
 use Rattle.library.specs.Code.{findingCode}
 use borrow.Author.Needs.{needs}
 use Rattle.library.proofs.code.finding_code.Statement.{statement}

@@ -1,4 +1,4 @@
-use mathlib.Core.Path.{_≡_, sym, ap, _∙_}
+use mathlib.Core.Path.{sym, ap, _∙_}
 use Rattle.library.specs.Code.{judgeCode}
 use borrow.Author.Needs.{needs}
 use Rattle.library.proofs.code.judge_code.Statement.{statement}

@@ -1,4 +1,4 @@
-use mathlib.Core.Path.{_≡_, sym, ap, _∙_}
+use mathlib.Core.Path.{sym, ap, _∙_}
 use Rattle.library.specs.Code.{outcomeCode}
 use borrow.Author.Needs.{needs}
 use Rattle.library.proofs.code.outcome_code.Statement.{statement}

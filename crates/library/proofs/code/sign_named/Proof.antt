@@ -1,6 +1,5 @@
-use mathlib.Core.Path.{_≡_, refl}
+use mathlib.Core.Path.{refl}
 use borrow.Author.Tests.{eq-eqb, ne-eqb}
-use borrow.Author.Needs.{needs}
 use Rattle.library.proofs.code.sign_named.Statement.{statement}
 use Rattle.library.proofs.code.sign_named.Tie as tie
 

@@ -1,4 +1,4 @@
-use mathlib.Core.Path.{_≡_, sym, _∙_}
+use mathlib.Core.Path.{sym, _∙_}
 use mathlib.Core.Bool.{_&&_}
 use Rattle.row_lines.proofs.Passes.{cut}
 use Rattle.row_lines.proofs.RowLines.{either-shown, both-shown}

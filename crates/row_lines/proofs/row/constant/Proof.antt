@@ -1,4 +1,4 @@
-use mathlib.Core.Path.{_≡_, sym, _∙_}
+use mathlib.Core.Path.{sym, _∙_}
 use Rattle.row_lines.proofs.RowLines.{all-shown, none-shown}
 use borrow.Author.Needs.{needs}
 use Rattle.row_lines.proofs.row.constant.Statement.{statement}

@@ -1,4 +1,4 @@
-use mathlib.Core.Path.{_≡_, sym, _∙_}
+use mathlib.Core.Path.{sym, _∙_}
 use lib.Dec.{ltb}
 use Rattle.tables.specs.Bit.{bitAt}
 use Rattle.row_lines.proofs.Passes.{cut}

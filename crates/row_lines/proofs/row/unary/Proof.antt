@@ -1,4 +1,4 @@
-use mathlib.Core.Path.{_≡_, sym, subst⁻¹, _∙_}
+use mathlib.Core.Path.{sym, _∙_}
 use mathlib.Core.Bool.{true, false}
 use lib.Dec.{ltb}
 use Rattle.row_lines.proofs.Passes.{cut}

@@ -5,7 +5,7 @@ use Rattle.rule_file.specs.Written.{rowsOf}
 use Rattle.rule_row.specs.Written.{writtenRow}
 use mathlib.Core.Path.{_∙_, sym, ap}
 use lib.ListN.{length-map}
-use Rattle.text.specs.Result.{outcomeOf, mapResult}
+use Rattle.text.specs.Result.{outcomeOf}
 use Rattle.text.proofs.Searching.{clash}
 use Rattle.text.proofs.Bodies.{outcome-map}
 use Rattle.rule_file.specs.Rule.{formulaOf}

@@ -1,8 +1,7 @@
 use Rattle.text.proofs.Searching.{clash}
-use mathlib.Core.Path.{_≡_, _∙_, sym, ap}
+use mathlib.Core.Path.{_∙_, sym}
 use Prim.Native.Nat.{_-_, _<_}
-use native.Mathlib.Omega.{arith}
-use lib.ListN.{length, length-map}
+use lib.ListN.{length-map}
 use borrow.Author.Tests.{not-true, not-false}
 use Rattle.text.proofs.Searching.{know}
 use Rattle.rule_file.proofs.CheckLoop.{CheckAt, check-start, check-whole, check-passes, check-fails, check-end, all-passed}

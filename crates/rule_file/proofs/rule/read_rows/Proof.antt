@@ -1,10 +1,9 @@
 use mathlib.Core.Path.{_≡_, _∙_, sym, ap}
-use Prim.Native.Nat.{_-_, _≤_}
+use Prim.Native.Nat.{_-_}
 use native.Mathlib.Omega.{arith}
 use lib.ListN.{length}
 use Rattle.text.proofs.Searching.{rest-part}
 use Rattle.text.proofs.Lines.{line-inside}
-use Rattle.text.specs.Result.{mapResult}
 use Rattle.rule_row.specs.Row.{rowLineAs, reasonOf}
 use Rattle.rule_file.proofs.RowLoop.{RowsAt, rows-start, places-long, rows-refused, rows-more, rows-surplus, rows-end}
 use borrow.Author.Needs.{needs}

@@ -1,6 +1,4 @@
-use mathlib.Core.Path.{_≡_, _∙_, sym, ap}
-use native.Mathlib.Omega.{arith}
-use lib.ListN.{length-drop}
+use mathlib.Core.Path.{_∙_, sym, ap}
 use borrow.Author.Tests.{lt-ltb, le-ltb}
 use Rattle.text.specs.Count.{countedAs, reasonOf}
 use Rattle.text.proofs.Searching.{rest-part}

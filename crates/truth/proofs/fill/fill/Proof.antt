@@ -4,7 +4,7 @@ use Rattle.meaning.proofs.Rows.{Each, EachSignal}
 use Rattle.normal_form.proofs.FormTables.{form-operands, row-operands, row-signals}
 use Rattle.truth.proofs.Filling.{loop-further, row-shown, earlier-shown, fill-enough}
 use borrow.Author.Needs.{needs}
-use mathlib.Core.Path.{_≡_, refl, sym, ap, _∙_, subst}
+use mathlib.Core.Path.{refl, subst}
 use Prim.Native.Nat.{ℕ, suc, _-_}
 use native.Mathlib.Omega.{arith}
 use Rattle.meaning.specs.Satisfaction.{tableOf}

@@ -1,6 +1,5 @@
-use mathlib.Core.Path.{_≡_, refl, sym, ap, subst, _∙_}
+use mathlib.Core.Path.{sym}
 use borrow.Author.Tests.{le-leb, lt-leb}
-use native.Mathlib.Omega.{arith}
 use Rattle.writing.proofs.Texts.{overlaid-all, overlaid-none}
 use borrow.Author.Needs.{needs}
 use Rattle.writing.proofs.put.deliver.Statement.{statement}

@@ -1,10 +1,9 @@
-use mathlib.Core.Path.{_≡_, sym, ap, ap₂, _∙_}
-use mathlib.Core.List.{List, [], _∷_, _++_, append-nil}
+use mathlib.Core.Path.{sym, ap, _∙_}
+use mathlib.Core.List.{[], _∷_, _++_, append-nil}
 use Prim.Native.Nat.{ℕ}
 use native.Mathlib.Omega.{arith}
 use Rattle.tables.specs.Kind.{kindAt, wordOf}
 use Rattle.text.specs.Written.{decimal}
-use Rattle.rule_row.specs.Written.{writtenRow, numbersText}
 use Rattle.writing.proofs.Texts.{wrote-both, wrote-is}
 use borrow.Author.Needs.{needs}
 use Rattle.writing.proofs.row.put_row.Statement.{statement}

@@ -1,9 +1,9 @@
-// A rule file and a take file, read.
+// A rule file and a take file, as most services get them: read one after the other, with the first refusal.
 ghost use mathlib.Core.Path.{_≡_};
 ghost use Rattle.tables.specs.Refusal.{andThen};
 ghost use Rattle.rule_file.specs.Rule.{parseRule};
 ghost use Rattle.take_file.specs.Take.{parseTake};
-ghost use Rattle.library.specs.File.{pairRead};
+ghost use Rattle.rule_and_take.specs.File.{pairRead};
 use tables::refusal::Outcome;
 use tables::row::Formula;
 use tables::trace::Trace;

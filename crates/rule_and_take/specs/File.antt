@@ -1,7 +1,6 @@
 -- Services on files: a file that is turned back is told as it is ("Files go rule, take, sheet"), and a file that is read goes to the
 -- service on tables. Assumes nothing.
 use Prim.Native.Nat.{ℕ}
-use mathlib.Core.List.{List, []}
 use Rattle.tables.specs.Refusal.{andThen}
 use Rattle.tables.specs.declared.refusal.Refusal.{Refusal}
 use Rattle.tables.specs.declared.row.Formula.{Formula}
@@ -10,7 +9,7 @@ use Rattle.text.specs.Result.{Result, outcomeOf}
 use Rattle.text.specs.Result.Result.{accepted, refused}
 use Rattle.rule_file.specs.Rule.{ruleAnswer}
 use Rattle.take_file.specs.Take.{takeAnswer}
-use Rattle.library.specs.declared.pair.Pair.{Pair}
+use Rattle.rule_and_take.specs.declared.Pair.{Pair}
 
 -- "A refusal gives number, file (1 rule, 2 take, 3 sheet) and line": `turns` of the refusal, or `goes` of the table
 abbrev pub OnFile : {A : Type 0} → ℕ → Result A → (Refusal → Type 0) → (A → Type 0) → Type 0

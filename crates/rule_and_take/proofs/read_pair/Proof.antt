@@ -1,10 +1,9 @@
-use mathlib.Core.Path.{_≡_, refl, sym, ap, _∙_}
 use Rattle.rule_file.specs.Rule.{parseRule}
 use Rattle.take_file.specs.Take.{parseTake}
-use Rattle.library.proofs.Files.{pair-is}
+use Rattle.rule_and_take.proofs.Files.{pair-is}
 use borrow.Author.Needs.{needs}
-use Rattle.library.proofs.pair.read_pair.Statement.{statement}
-use Rattle.library.proofs.pair.read_pair.Tie as tie
+use Rattle.rule_and_take.proofs.read_pair.Statement.{statement}
+use Rattle.rule_and_take.proofs.read_pair.Tie as tie
 
 returns : tie.Need-returns
 returns c = pair-is (parseRule (c .before .before .before .before .before .before .before .args .rule .now)) (parseTake (c .before .before .before .before .before .before .before .args .take .now)) (c .before .before .before .before .read-rule .result) (c .before .before .before .read-take .result) _ (c .before .before .before .before .read-rule .ensures) (c .before .before .before .read-take .ensures) (c .before .before .first-refusal .ensures)

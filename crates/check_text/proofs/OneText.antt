@@ -1,0 +1,26 @@
+-- The contract of `check_sheet` leaves one text. Assumes nothing.
+use Prim.Native.Nat.{ℕ}
+use mathlib.Core.Path.{_≡_, sym, ap, _∙_}
+use mathlib.Core.List.{List}
+use Rattle.tables.specs.Refusal.{andThen}
+use Rattle.tables.specs.declared.refusal.Outcome.{Outcome}
+use Rattle.tables.specs.declared.refusal.Outcome.the-variants.{Accepted, Refused}
+use Rattle.tables.specs.declared.row.Formula.{Formula}
+use Rattle.tables.specs.declared.trace.Activation.{Activation}
+use Rattle.tables.specs.declared.trace.Trace.{Trace}
+use Rattle.text.specs.Result.{Result}
+use Rattle.text.specs.Result.Result.{accepted, refused}
+use Rattle.sheet_check.specs.Answer.{sevenOutcome, nineOutcome}
+use Rattle.check_text.specs.Text.{findingText}
+use Rattle.check_text.specs.Answer.{IsOutcomeText, IsCheckText}
+
+module _ (text other : List ℕ) where
+  one-found : (o : Outcome) (f : Formula) (t : Trace) (a : Activation) → IsOutcomeText o f t a text → IsOutcomeText o f t a other → text ≡ other
+  one-found (Refused why) f t a x y = x ∙ sym y
+  one-found Accepted f t a (v, is, e) (u, also, d) = e ∙ ap findingText (also .only v (is .said)) ∙ sym d
+
+  pub one-text : (p : Result Formula) (q : Result Trace) (s : Result Activation) → IsCheckText p q s text → IsCheckText p q s other → text ≡ other
+  one-text (refused e n) q s x y = x ∙ sym y
+  one-text (accepted f) (refused e n) s x y = x ∙ sym y
+  one-text (accepted f) (accepted t) (refused e n) x y = x ∙ sym y
+  one-text (accepted f) (accepted t) (accepted a) x y = one-found (andThen (sevenOutcome f t) (nineOutcome f t a)) f t a x y

@@ -1,0 +1,38 @@
+-- The contract of `sheet` leaves one text. Assumes nothing.
+use mathlib.Core.Path.{_≡_, refl, sym, _∙_}
+use mathlib.Core.Bool.{Bool, true, false}
+use mathlib.Core.List.{List}
+use Prim.Native.Nat.{ℕ}
+use lib.Dec.{eqb}
+use Rattle.tables.specs.declared.row.Formula.{Formula}
+use Rattle.tables.specs.declared.trace.Trace.{Trace}
+use Rattle.text.specs.Result.{Result}
+use Rattle.text.specs.Result.Result.{accepted, refused}
+use Rattle.rule_file.specs.Rule.{parseRule}
+use Rattle.rule_file.specs.Valid.{InRange}
+use Rattle.rule_file.proofs.Rules.{rule-read}
+use Rattle.normal_form.specs.declared.sign.Sign.the-variants.{Plain}
+use Rattle.normal_form.specs.Numbering.{normalForm}
+use Rattle.normal_form.proofs.Ranges.{form-normal}
+use Rattle.sheet_maker.proofs.Sheets.{made-unique}
+use Rattle.sheet_text.specs.Answer.{IsMadeText, IsMadeText.sheet, IsMadeText.none, IsPairText, IsText}
+
+module _ (f : Formula) (t : Trace) (fine : InRange f) (text other : List ℕ) where
+  one-made : IsMadeText f t text → IsMadeText f t other → text ≡ other
+  one-made (sheet s a made p) (sheet r b again q) = p ∙ made-unique (normalForm f Plain) t a b (form-normal f Plain fine .most-rows) made again ∙ sym q
+  one-made (sheet s a made p) (none r q) = absurd (r s)
+  one-made (none s p) (sheet r b again q) = absurd (s r)
+  one-made (none s p) (none r q) = p ∙ sym q
+
+  one-pair : (same : Bool) → IsPairText same f t text → IsPairText same f t other → text ≡ other
+  one-pair true x y = one-made x y
+  one-pair false x y = x ∙ sym y
+
+module _ (rule : List ℕ) (q : Result Trace) (text other : List ℕ) where
+  on : (p : Result Formula) → parseRule rule ≡ p → (q : Result Trace) → IsText p q text → IsText p q other → text ≡ other
+  on (refused e n) r q x y = x ∙ sym y
+  on (accepted f) r (refused e n) x y = x ∙ sym y
+  on (accepted f) r (accepted t) x y = one-pair f t (rule-read rule f r .1 .in-range) text other (eqb (f .signals) (t .signals)) x y
+
+  pub one-text : IsText (parseRule rule) q text → IsText (parseRule rule) q other → text ≡ other
+  one-text x y = on (parseRule rule) refl q x y
