@@ -1,0 +1,27 @@
+//! A second implementation of every service of Citronhelm, to hold the proved library to.
+//!
+//! It is written from the papers (the formats, the meaning, the monitors' table, the refusals) and shares no method with the
+//! library: truth is evaluated by the quantifiers of the meaning, at every cycle anew; the normal form by recursion from the
+//! root; a sheet is checked by running the monitors along the endless take; files are split into lines and words.
+//! It is meant to be plainly right and not to be fast.
+
+#![forbid(unsafe_code)]
+
+mod judge;
+mod lines;
+mod monitor;
+mod normal;
+mod refusal;
+mod rule;
+mod services;
+mod sheet;
+mod take;
+mod truth;
+
+#[cfg(test)]
+mod cases;
+
+pub use judge::Verdict;
+pub use refusal::Refusal;
+pub use services::*;
+pub use sheet::Finding;

@@ -1,0 +1,99 @@
+//! Files as lines `key=value`, each with its line feed, and numbers.
+
+use crate::refusal::Refusal;
+use std::ops::RangeInclusive;
+
+/// The longest file that is read.
+const MOST_BYTES: usize = 65_536;
+
+/// The lines of a file that are not read yet.
+pub struct Lines<'a> {
+    file: u8,
+    line: u32,
+    rest: std::slice::SplitInclusive<'a, u8, fn(&u8) -> bool>,
+}
+
+impl<'a> Lines<'a> {
+    /// The lines of file number `file`, its format line read.
+    pub fn of(file: u8, bytes: &'a [u8]) -> Result<Self, Refusal> {
+        if bytes.len() > MOST_BYTES {
+            return Err(Refusal { number: 1, file, line: 0 });
+        }
+        let is_feed: fn(&u8) -> bool = |byte| *byte == b'\n';
+        let mut lines = Lines { file, line: 0, rest: bytes.split_inclusive(is_feed) };
+        let format = lines.parsed("format", number)?;
+        lines.require(format == 1, 3)?;
+        Ok(lines)
+    }
+
+    /// The refusal with this number at the line read last.
+    pub fn refusal(&self, number: u8) -> Refusal {
+        Refusal { number, file: self.file, line: self.line }
+    }
+
+    /// Refuses the line read last with `number` unless `fits`.
+    pub fn require(&self, fits: bool, number: u8) -> Result<(), Refusal> {
+        fits.then_some(()).ok_or(self.refusal(number))
+    }
+
+    /// Reads the next line; its key must be `key` and `parse` must take its value.
+    pub fn parsed<T>(&mut self, key: &str, parse: impl FnOnce(&'a str) -> Option<T>) -> Result<T, Refusal> {
+        self.line += 1;
+        self.rest.next().and_then(|line| value(line, key)).and_then(parse).ok_or(self.refusal(2))
+    }
+
+    /// Reads the next line as a count in a range.
+    pub fn count(&mut self, key: &str, range: RangeInclusive<usize>) -> Result<usize, Refusal> {
+        let count = self.parsed(key, number)?;
+        self.require(range.contains(&count), 4)?;
+        Ok(count)
+    }
+
+    /// Nothing may follow the last line.
+    pub fn end(mut self) -> Result<(), Refusal> {
+        self.line += 1;
+        let surplus = self.rest.next();
+        self.require(surplus.is_none(), 2)
+    }
+}
+
+/// The value of a line with this key, behind its equals sign and without its line feed.
+fn value<'a>(line: &'a [u8], key: &str) -> Option<&'a str> {
+    let text = std::str::from_utf8(line).ok()?.strip_suffix('\n')?;
+    text.strip_prefix(key)?.strip_prefix('=')
+}
+
+/// A decimal number of one to five digits without leading zeros: one that is written as it was read.
+pub fn number(text: &str) -> Option<usize> {
+    text.parse().ok().filter(|number: &usize| text.len() <= 5 && number.to_string() == text)
+}
+
+/// As many digits 0 and 1 as `length` says.
+pub fn digits(text: &str, length: usize) -> Option<Vec<bool>> {
+    let digits: Option<Vec<bool>> = text.chars().map(digit).collect();
+    digits.filter(|digits| digits.len() == length)
+}
+
+/// A digit 0 or 1.
+pub fn digit(character: char) -> Option<bool> {
+    match character {
+        '0' => Some(false),
+        '1' => Some(true),
+        _ => None,
+    }
+}
+
+#[cfg(test)]
+mod tests {
+    use super::*;
+
+    #[test]
+    fn numbers() {
+        for (text, expected) in [("0", Some(0)), ("7", Some(7)), ("99999", Some(99_999)), ("10", Some(10))] {
+            assert_eq!(number(text), expected);
+        }
+        for text in ["", "00", "01", "+1", "-1", " 1", "1 ", "1.", "x", "100000", "٣"] {
+            assert_eq!(number(text), None, "{text}");
+        }
+    }
+}

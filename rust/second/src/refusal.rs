@@ -1,0 +1,19 @@
+//! Why a call is turned back.
+
+/// A refusal: its number from 1 to 10, its file (1 rule, 2 take, 3 sheet, 0 none) and its line (from 1, 0 for none).
+#[derive(Clone, Copy, Debug, PartialEq, Eq)]
+pub struct Refusal {
+    /// The number in the list of refusals.
+    pub number: u8,
+    /// The file at fault.
+    pub file: u8,
+    /// The line at fault.
+    pub line: u32,
+}
+
+impl Refusal {
+    /// A refusal that no file and no line is at fault for.
+    pub(crate) fn of_call(number: u8) -> Self {
+        Refusal { number, file: 0, line: 0 }
+    }
+}
