@@ -1,0 +1,120 @@
+/*
+ * Citronhelm: rules of linear temporal logic checked on recorded signals. Every function below is proved to answer as the project's
+ * definitions say, for every input (docs/CLAIMS.md).
+ *
+ * Files are given as bytes: a pointer and a length. A pointer may be of any value where its length is 0. No function keeps a pointer,
+ * has a state, asks for memory or fails on any input. Input bytes are never altered. The output must not lie over an input.
+ *
+ * Every function answers one number. Its highest bit is set where the call is refused; citronhelm_reason, citronhelm_file and
+ * citronhelm_line then give the refusal's number, file and line. A refused call leaves the whole output as it was. Where a call is
+ * answered, the output begins with what was written, and the bytes behind it stay as they were.
+ *
+ * Refusals:
+ *    1  the file is longer than 65,536 bytes
+ *    2  a line is absent, surplus or not of the form given for its place
+ *    3  the format is not 1
+ *    4  a count lies outside its range
+ *    5  a signal number is 0 or above `signals`, or an operand is 0 or not below its row
+ *    6  the loop's cycle is not below `cycles`
+ *    7  rule and take differ in `signals`
+ *    8  a looped service has an open take, or an open service a looped one
+ *    9  the sheet's rows or cycles differ from the normal form's or the take's
+ *   10  the output is shorter than what is to be written
+ * File: 1 rule, 2 take, 3 sheet. Line: from 1; 0 for refusal 1. File and line are 0 for 7 to 10.
+ * Files are read in the order rule, take, sheet; the first fault is the one that is told.
+ */
+#ifndef CITRONHELM_H
+#define CITRONHELM_H
+
+#include <stddef.h>
+#include <stdint.h>
+
+#ifdef __cplusplus
+extern "C" {
+#endif
+
+/* How long an output has to be at most. */
+#define CITRONHELM_MOST_TEXT 64u     /* citronhelm_judge_text */
+#define CITRONHELM_MOST_NORMAL 2845u /* citronhelm_normal */
+#define CITRONHELM_MOST_STEP 384u    /* citronhelm_step */
+#define CITRONHELM_MOST_SHEET 33567u /* citronhelm_make_sheet */
+
+/* Whether an answer is a refusal; its number, file and line. */
+static inline int citronhelm_refused(uint64_t answer) { return (int)(answer >> 63); }
+static inline unsigned citronhelm_reason(uint64_t answer) { return (unsigned)(answer & 255); }
+static inline unsigned citronhelm_file(uint64_t answer) { return (unsigned)(answer >> 8 & 255); }
+static inline uint32_t citronhelm_line(uint64_t answer) { return (uint32_t)(answer >> 16); }
+
+/* Reads a rule, take or sheet file. Answers 0 where it is accepted. */
+uint64_t citronhelm_read_rule(const uint8_t *rule, size_t rule_length);
+uint64_t citronhelm_read_take(const uint8_t *take, size_t take_length);
+uint64_t citronhelm_read_sheet(const uint8_t *sheet, size_t sheet_length);
+
+/* A bound on the length of a rule's normal form as a file: 29 + 44 * (rows of the rule), never less than its length. */
+uint64_t citronhelm_bound(const uint8_t *rule, size_t rule_length);
+
+/* The number of rows in a rule's normal form, 1 to 128: the number of pendings and of activators for citronhelm_step, and of a sheet's rows. */
+uint64_t citronhelm_rows(const uint8_t *rule, size_t rule_length);
+
+/*
+ * Writes a rule's normal form as a rule file, that of the negated rule where `negated` is not 0. Answers its length.
+ * At most CITRONHELM_MOST_NORMAL bytes; for one rule at most citronhelm_bound.
+ */
+uint64_t citronhelm_normal(const uint8_t *rule, size_t rule_length, uint8_t negated, uint8_t *output, size_t output_length);
+
+/* The verdict on a rule and a take. */
+enum citronhelm_verdict {
+    CITRONHELM_HOLDS = 1,  /* looped: its endless repetition satisfies the rule */
+    CITRONHELM_BREAKS = 2, /* looped: it does not */
+    CITRONHELM_KEPT = 3,   /* open: it shows that every continuation satisfies the rule (an informative prefix) */
+    CITRONHELM_BROKEN = 4, /* open: it shows that none does */
+    CITRONHELM_OPEN = 5    /* open: neither */
+};
+uint64_t citronhelm_judge(const uint8_t *rule, size_t rule_length, const uint8_t *take, size_t take_length);        /* either kind */
+uint64_t citronhelm_judge_looped(const uint8_t *rule, size_t rule_length, const uint8_t *take, size_t take_length); /* 8 for an open take */
+uint64_t citronhelm_judge_open(const uint8_t *rule, size_t rule_length, const uint8_t *take, size_t take_length);   /* 8 for a looped take */
+
+/*
+ * Writes what the program `judge` prints for the two files: five lines with the verdict, or the three lines of a refusal. Answers the
+ * text's length; refused with 10 only. At most CITRONHELM_MOST_TEXT bytes.
+ */
+uint64_t citronhelm_judge_text(
+    const uint8_t *rule, size_t rule_length, const uint8_t *take, size_t take_length, uint8_t *output, size_t output_length);
+
+/*
+ * One cycle of a rule's monitors. All inputs behind the rule are digits, the bytes '0' and '1': each normal-form row's pending one
+ * cycle earlier (all '0' before the first cycle), each row's activator, each signal. Writes the digits of failed, then accept, then
+ * pending, each by row, and answers their number, 3 * citronhelm_rows: the pendings for the next call are the last third.
+ * Refusals behind the rule's own: 2 (another byte than '0' or '1'), 7 (number of signals), 9 (number of pendings or activators), 10.
+ */
+uint64_t citronhelm_step(
+    const uint8_t *rule, size_t rule_length, const uint8_t *pendings, size_t pendings_length, const uint8_t *activators,
+    size_t activators_length, const uint8_t *signals, size_t signals_length, uint8_t *output, size_t output_length);
+
+/*
+ * Writes the activator sheet of a rule and a take as a sheet file: a 1 where the row of the normal form is true at that cycle
+ * (strongly, for an open take). Answers its length, or 0 (`none`; nothing is written, any output does) where the rule does not hold
+ * or is not kept. At most CITRONHELM_MOST_SHEET bytes.
+ */
+uint64_t citronhelm_make_sheet(
+    const uint8_t *rule, size_t rule_length, const uint8_t *take, size_t take_length, uint8_t *output, size_t output_length);
+
+/* What a check of a sheet finds. citronhelm_finding, citronhelm_row and citronhelm_cycle take an answer apart. */
+enum citronhelm_found {
+    CITRONHELM_ROOT = 1,    /* the root is not active in cycle 0 */
+    CITRONHELM_FAILED = 2,  /* a monitor fails: the earliest cycle, counted along the endless take, and the lowest row there */
+    CITRONHELM_STARVED = 3, /* looped: a row's accept stops returning; the lowest row */
+    CITRONHELM_PENDING = 4, /* open: a row is pending in the last cycle; the lowest row */
+    CITRONHELM_PASSES = 5
+};
+static inline unsigned citronhelm_finding(uint64_t answer) { return (unsigned)(answer & 255); }
+static inline unsigned citronhelm_row(uint64_t answer) { return (unsigned)(answer >> 8 & 255); }       /* from 1; failed, starved, pending */
+static inline uint32_t citronhelm_cycle(uint64_t answer) { return (uint32_t)(answer >> 16); } /* failed */
+uint64_t citronhelm_check_sheet(
+    const uint8_t *rule, size_t rule_length, const uint8_t *take, size_t take_length, const uint8_t *sheet, size_t sheet_length);
+
+#ifdef __cplusplus
+}
+#endif
+
+#endif

@@ -1,0 +1,43 @@
+//! Rules of linear temporal logic checked on recorded signals, by services that are proved to answer as their definitions say on
+//! every input.
+//!
+//! A *rule* file holds a formula, row by row; a *take* file a recording, a digit for each signal in each cycle, which either
+//! stops (an open take) or ends in a loop that repeats without end; a *sheet* file the activators of the rule's monitors. How they
+//! are written stands in the project's `docs/FORMATS.md`. All services take files as bytes, any bytes: whatever is wrong with
+//! them is answered by a [`Refusal`] with its number, file and line. Outputs are written into slices that the caller lends; a
+//! refused call leaves them as they were, and an answered one leaves the bytes behind its output as they were.
+//!
+//! The services have no state and need no memory but the caller's; the two functions whose names end in `_vec` allocate.
+//!
+//! The example below, which the other examples use as well, says: always, when signal 1 is on, sooner or later signal 2 is.
+//!
+//! ```
+//! use citronhelm::{judge, Verdict};
+//!
+//! let rule = b"format=1\nsignals=2\nrows=6\n\
+//!     r1=sig 1\nr2=not 1\nr3=sig 2\nr4=ever 3\nr5=or 2 4\nr6=always 5\n";
+//! let looped = b"format=1\nsignals=2\ncycles=2\nloop=0\nc0=10\nc1=01\n";
+//! let open = b"format=1\nsignals=2\ncycles=1\nloop=none\nc0=10\n";
+//!
+//! assert_eq!(judge(rule, looped), Ok(Verdict::Holds));
+//! assert_eq!(judge(rule, open), Ok(Verdict::Open));
+//! ```
+
+#![deny(unsafe_code)]
+
+mod declarations;
+mod finding;
+mod judging;
+mod reading;
+mod refusal;
+mod sheets;
+mod steps;
+mod verdict;
+
+pub use finding::Finding;
+pub use judging::{judge, judge_looped, judge_open, judge_text, MOST_TEXT};
+pub use reading::{bound, normal, normal_vec, read_rule, read_sheet, read_take, rows, MOST_NORMAL};
+pub use refusal::{File, Reason, Refusal};
+pub use sheets::{check_sheet, make_sheet, make_sheet_vec, MOST_SHEET};
+pub use steps::{step, MOST_STEP};
+pub use verdict::Verdict;

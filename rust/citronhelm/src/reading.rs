@@ -1,0 +1,98 @@
+//! Reading, and what is said of a rule alone: its normal form.
+
+use crate::declarations;
+use crate::refusal::{answered, counted, Refusal};
+
+/// The bytes that any normal form needs at most.
+pub const MOST_NORMAL: usize = 2845;
+
+/// Reads a rule file.
+///
+/// ```
+/// use citronhelm::{read_rule, Reason};
+///
+/// assert_eq!(read_rule(b"format=1\nsignals=1\nrows=2\nr1=sig 1\nr2=always 1\n"), Ok(()));
+/// let refusal = read_rule(b"format=1\nsignals=1\nrows=2\nr1=sig 1\nr2=always 2\n").unwrap_err();
+/// assert_eq!((refusal.reason, refusal.line), (Reason::NumberOutOfRange, 5));
+/// ```
+pub fn read_rule(rule: &[u8]) -> Result<(), Refusal> {
+    answered(declarations::read_rule(rule)).map(|_| ())
+}
+
+/// Reads a take file.
+///
+/// ```
+/// use citronhelm::{read_take, Reason};
+///
+/// assert_eq!(read_take(b"format=1\nsignals=2\ncycles=1\nloop=0\nc0=10\n"), Ok(()));
+/// let refusal = read_take(b"format=1\nsignals=2\ncycles=1\nloop=1\nc0=10\n").unwrap_err();
+/// assert_eq!((refusal.reason, refusal.line), (Reason::LoopOutOfRange, 4));
+/// ```
+pub fn read_take(take: &[u8]) -> Result<(), Refusal> {
+    answered(declarations::read_take(take)).map(|_| ())
+}
+
+/// Reads a sheet file.
+///
+/// ```
+/// use citronhelm::{read_sheet, Reason};
+///
+/// assert_eq!(read_sheet(b"format=1\nrows=1\ncycles=2\nz1=10\n"), Ok(()));
+/// let refusal = read_sheet(b"format=1\nrows=129\ncycles=2\n").unwrap_err();
+/// assert_eq!((refusal.reason, refusal.line), (Reason::CountOutOfRange, 2));
+/// ```
+pub fn read_sheet(sheet: &[u8]) -> Result<(), Refusal> {
+    answered(declarations::read_sheet(sheet)).map(|_| ())
+}
+
+/// A bound on the length of a rule's normal form as a file: 29 + 44 × the rule's rows, never less than its length.
+///
+/// ```
+/// assert_eq!(citronhelm::bound(b"format=1\nsignals=1\nrows=2\nr1=sig 1\nr2=always 1\n"), Ok(117));
+/// ```
+pub fn bound(rule: &[u8]) -> Result<usize, Refusal> {
+    counted(declarations::bound(rule))
+}
+
+/// The number of rows in a rule's normal form, 1 to 128.
+///
+/// ```
+/// let rule = b"format=1\nsignals=2\nrows=6\n\
+///     r1=sig 1\nr2=not 1\nr3=sig 2\nr4=ever 3\nr5=or 2 4\nr6=always 5\n";
+/// assert_eq!(citronhelm::rows(rule), Ok(5));
+/// ```
+pub fn rows(rule: &[u8]) -> Result<usize, Refusal> {
+    counted(declarations::rows(rule))
+}
+
+/// Writes the normal form of a rule, or of the negated rule, as a rule file, and answers its length: at most [`bound`] of the rule,
+/// at most [`MOST_NORMAL`] for any.
+///
+/// ```
+/// use citronhelm::{normal, Reason, MOST_NORMAL};
+///
+/// let rule = b"format=1\nsignals=2\nrows=6\n\
+///     r1=sig 1\nr2=not 1\nr3=sig 2\nr4=ever 3\nr5=or 2 4\nr6=always 5\n";
+/// let expected = b"format=1\nsignals=2\nrows=5\n\
+///     r1=nsig 1\nr2=sig 2\nr3=ever 2\nr4=or 1 3\nr5=always 4\n";
+/// let mut output = [0; MOST_NORMAL];
+/// assert_eq!(normal(rule, false, &mut output), Ok(expected.len()));
+/// assert_eq!(&output[..expected.len()], expected);
+/// assert_eq!(normal(rule, false, &mut output[1..expected.len()]).unwrap_err().reason, Reason::OutputTooShort);
+/// ```
+pub fn normal(rule: &[u8], negated: bool, output: &mut [u8]) -> Result<usize, Refusal> {
+    counted(declarations::normal(rule, negated, output))
+}
+
+/// The normal form of a rule, or of the negated rule, as a rule file.
+///
+/// ```
+/// let rule = b"format=1\nsignals=1\nrows=2\nr1=sig 1\nr2=always 1\n";
+/// assert_eq!(citronhelm::normal_vec(rule, true).unwrap(), b"format=1\nsignals=1\nrows=2\nr1=nsig 1\nr2=ever 1\n");
+/// ```
+pub fn normal_vec(rule: &[u8], negated: bool) -> Result<Vec<u8>, Refusal> {
+    let mut output = vec![0; MOST_NORMAL];
+    let length = normal(rule, negated, &mut output)?;
+    output.truncate(length);
+    Ok(output)
+}
