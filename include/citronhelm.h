@@ -53,7 +53,7 @@ uint64_t citronhelm_read_sheet(const uint8_t *sheet, size_t sheet_length);
 /* A bound on the length of a rule's normal form as a file: 29 + 44 * (rows of the rule), never less than its length. */
 uint64_t citronhelm_bound(const uint8_t *rule, size_t rule_length);
 
-/* The number of rows in a rule's normal form, 1 to 128: the number of pendings and of activators for citronhelm_step, and of a sheet's rows. */
+/* The number of rows in a rule's normal form, 1 to 128: that of the pendings and activators of citronhelm_step, and of a sheet's rows. */
 uint64_t citronhelm_rows(const uint8_t *rule, size_t rule_length);
 
 /*
@@ -70,9 +70,10 @@ enum citronhelm_verdict {
     CITRONHELM_BROKEN = 4, /* open: it shows that none does */
     CITRONHELM_OPEN = 5    /* open: neither */
 };
-uint64_t citronhelm_judge(const uint8_t *rule, size_t rule_length, const uint8_t *take, size_t take_length);        /* either kind */
-uint64_t citronhelm_judge_looped(const uint8_t *rule, size_t rule_length, const uint8_t *take, size_t take_length); /* 8 for an open take */
-uint64_t citronhelm_judge_open(const uint8_t *rule, size_t rule_length, const uint8_t *take, size_t take_length);   /* 8 for a looped take */
+/* A take of either kind; a looped one, an open one being refused with 8; an open one, a looped one being refused with 8. */
+uint64_t citronhelm_judge(const uint8_t *rule, size_t rule_length, const uint8_t *take, size_t take_length);
+uint64_t citronhelm_judge_looped(const uint8_t *rule, size_t rule_length, const uint8_t *take, size_t take_length);
+uint64_t citronhelm_judge_open(const uint8_t *rule, size_t rule_length, const uint8_t *take, size_t take_length);
 
 /*
  * Writes what the program `judge` prints for the two files: five lines with the verdict, or the three lines of a refusal. Answers the
@@ -99,7 +100,10 @@ uint64_t citronhelm_step(
 uint64_t citronhelm_make_sheet(
     const uint8_t *rule, size_t rule_length, const uint8_t *take, size_t take_length, uint8_t *output, size_t output_length);
 
-/* What a check of a sheet finds. citronhelm_finding, citronhelm_row and citronhelm_cycle take an answer apart. */
+/*
+ * What a check of a sheet finds. citronhelm_finding takes it from an answer, citronhelm_row the row, from 1 (failed, starved, pending),
+ * citronhelm_cycle the cycle, from 0 (failed).
+ */
 enum citronhelm_found {
     CITRONHELM_ROOT = 1,    /* the root is not active in cycle 0 */
     CITRONHELM_FAILED = 2,  /* a monitor fails: the earliest cycle, counted along the endless take, and the lowest row there */
@@ -108,8 +112,8 @@ enum citronhelm_found {
     CITRONHELM_PASSES = 5
 };
 static inline unsigned citronhelm_finding(uint64_t answer) { return (unsigned)(answer & 255); }
-static inline unsigned citronhelm_row(uint64_t answer) { return (unsigned)(answer >> 8 & 255); }       /* from 1; failed, starved, pending */
-static inline uint32_t citronhelm_cycle(uint64_t answer) { return (uint32_t)(answer >> 16); } /* failed */
+static inline unsigned citronhelm_row(uint64_t answer) { return (unsigned)(answer >> 8 & 255); }
+static inline uint32_t citronhelm_cycle(uint64_t answer) { return (uint32_t)(answer >> 16); }
 uint64_t citronhelm_check_sheet(
     const uint8_t *rule, size_t rule_length, const uint8_t *take, size_t take_length, const uint8_t *sheet, size_t sheet_length);
 

@@ -1,0 +1,120 @@
+//! A call of a service, and what it leaves.
+
+use std::fmt;
+
+/// The services, in the order of the table of counts.
+#[derive(Clone, Copy, Debug, PartialEq, Eq, PartialOrd, Ord)]
+pub enum Service {
+    ReadRule,
+    ReadTake,
+    ReadSheet,
+    Bound,
+    Rows,
+    Normal,
+    Judge,
+    JudgeLooped,
+    JudgeOpen,
+    JudgeText,
+    Step,
+    MakeSheet,
+    CheckSheet,
+}
+
+/// A call: its inputs in the order of the service's parameters, whether the negated rule is meant (`Normal` only), and the output
+/// lent, as it is before the call.
+#[derive(Clone)]
+pub struct Call {
+    pub service: Service,
+    pub inputs: Vec<Vec<u8>>,
+    pub negated: bool,
+    pub output: Vec<u8>,
+}
+
+/// What a service says.
+#[derive(Clone, Debug, PartialEq, Eq)]
+pub enum Answer {
+    /// A file is accepted.
+    Accepted,
+    /// A bound, a number of rows, or the length of what was written.
+    Number(usize),
+    /// A verdict, by its word.
+    Verdict(String),
+    /// A finding, by its word, with row and cycle where it has them.
+    Finding(&'static str, usize, usize),
+    /// No sheet.
+    None,
+    /// A refusal: number, file, line.
+    Refused(u8, u8, u32),
+}
+
+/// Everything that a call leaves: the answer, the inputs and the whole output.
+#[derive(Clone, Debug, PartialEq, Eq)]
+pub struct Outcome {
+    pub answer: Answer,
+    pub inputs: Vec<Vec<u8>>,
+    pub output: Vec<u8>,
+}
+
+impl Service {
+    pub const ALL: [Service; 13] = [
+        Service::ReadRule,
+        Service::ReadTake,
+        Service::ReadSheet,
+        Service::Bound,
+        Service::Rows,
+        Service::Normal,
+        Service::Judge,
+        Service::JudgeLooped,
+        Service::JudgeOpen,
+        Service::JudgeText,
+        Service::Step,
+        Service::MakeSheet,
+        Service::CheckSheet,
+    ];
+
+    /// A call of a service that writes nothing.
+    pub fn of(self, inputs: &[&[u8]]) -> Call {
+        self.writing(inputs, Vec::new())
+    }
+
+    /// A call of a service with a lent output.
+    pub fn writing(self, inputs: &[&[u8]], output: Vec<u8>) -> Call {
+        Call { service: self, inputs: inputs.iter().map(|input| input.to_vec()).collect(), negated: false, output }
+    }
+}
+
+/// A short name, for the table of counts.
+impl fmt::Display for Service {
+    fn fmt(&self, f: &mut fmt::Formatter<'_>) -> fmt::Result {
+        f.pad(match self {
+            Service::ReadRule => "rule",
+            Service::ReadTake => "take",
+            Service::ReadSheet => "sheet",
+            Service::Bound => "bound",
+            Service::Rows => "rows",
+            Service::Normal => "normal",
+            Service::Judge => "judge",
+            Service::JudgeLooped => "looped",
+            Service::JudgeOpen => "open",
+            Service::JudgeText => "text",
+            Service::Step => "step",
+            Service::MakeSheet => "make",
+            Service::CheckSheet => "check",
+        })
+    }
+}
+
+impl fmt::Display for Call {
+    fn fmt(&self, f: &mut fmt::Formatter<'_>) -> fmt::Result {
+        writeln!(f, "{:?} with negated={} and an output of {} bytes", self.service, self.negated, self.output.len())?;
+        self.inputs.iter().try_for_each(|input| writeln!(f, "  input b\"{}\"", input.escape_ascii()))
+    }
+}
+
+impl fmt::Display for Outcome {
+    fn fmt(&self, f: &mut fmt::Formatter<'_>) -> fmt::Result {
+        writeln!(f, "{:?}", self.answer)?;
+        self.inputs.iter().try_for_each(|input| writeln!(f, "  input b\"{}\"", input.escape_ascii()))?;
+        write!(f, "  output b\"{}\"", self.output.escape_ascii())
+    }
+}

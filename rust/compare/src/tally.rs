@@ -1,0 +1,167 @@
+//! How often each service gave each answer, which answers are possible, and which of them never came.
+
+use crate::call::{Answer, Outcome, Service};
+use std::collections::BTreeMap;
+use std::fmt;
+
+/// A kind of answer: a word, or a refusal's number and file.
+#[derive(Clone, Debug, PartialEq, Eq, PartialOrd, Ord)]
+pub enum Kind {
+    Said(String),
+    Refused(u8, u8),
+}
+
+/// The counts.
+#[derive(Default)]
+pub struct Tally(BTreeMap<(Service, Kind), u64>);
+
+const VERDICTS: &[&str] = &["holds", "breaks", "kept", "broken", "open"];
+const WORDS: &[&str] = &[
+    "accepted", "number", "written", "holds", "breaks", "kept", "broken", "open", "none", "root", "failed", "starved",
+    "pending", "passes",
+];
+const RULE: &[(u8, u8)] = &[(1, 1), (2, 1), (3, 1), (4, 1), (5, 1)];
+const TAKE: &[(u8, u8)] = &[(1, 2), (2, 2), (3, 2), (4, 2), (6, 2)];
+const SHEET: &[(u8, u8)] = &[(1, 3), (2, 3), (3, 3), (4, 3)];
+const CALL: &[(u8, u8)] = &[(2, 0), (7, 0), (8, 0), (9, 0), (10, 0)];
+
+/// The answers that a service can give: words, and refusals of files and calls.
+fn possible(service: Service) -> Vec<Kind> {
+    let (words, files, calls): (&[&str], &[&[(u8, u8)]], &[u8]) = match service {
+        Service::ReadRule => (&["accepted"], &[RULE], &[]),
+        Service::ReadTake => (&["accepted"], &[TAKE], &[]),
+        Service::ReadSheet => (&["accepted"], &[SHEET], &[]),
+        Service::Bound | Service::Rows => (&["number"], &[RULE], &[]),
+        Service::Normal => (&["written"], &[RULE], &[10]),
+        Service::Judge => (VERDICTS, &[RULE, TAKE], &[7]),
+        Service::JudgeLooped => (&["holds", "breaks"], &[RULE, TAKE], &[7, 8]),
+        Service::JudgeOpen => (&["kept", "broken", "open"], &[RULE, TAKE], &[7, 8]),
+        Service::JudgeText => (VERDICTS, &[RULE, TAKE], &[7, 10]),
+        Service::Step => (&["written"], &[RULE], &[2, 7, 9, 10]),
+        Service::MakeSheet => (&["none", "written"], &[RULE, TAKE], &[7, 10]),
+        Service::CheckSheet => (&["root", "failed", "starved", "pending", "passes"], &[RULE, TAKE, SHEET], &[7, 9]),
+    };
+    let said = words.iter().map(|word| Kind::Said(word.to_string()));
+    let of_files = files.concat().into_iter().map(|(number, file)| Kind::Refused(number, file));
+    let of_calls = calls.iter().map(|number| Kind::Refused(*number, 0));
+    said.chain(of_files).chain(of_calls).collect()
+}
+
+/// The kind of an answer. What `judge` prints counts as what it says.
+fn kind(service: Service, outcome: &Outcome) -> Kind {
+    let word = match &outcome.answer {
+        Answer::Refused(number, file, _) => return Kind::Refused(*number, *file),
+        Answer::Number(length) if service == Service::JudgeText => return kind_of_text(&outcome.output[..*length]),
+        Answer::Accepted => "accepted",
+        Answer::Number(_) if matches!(service, Service::Bound | Service::Rows) => "number",
+        Answer::Number(_) => "written",
+        Answer::Verdict(word) => word,
+        Answer::Finding(word, _, _) => word,
+        Answer::None => "none",
+    };
+    Kind::Said(word.to_string())
+}
+
+/// What a text of `judge` says.
+fn kind_of_text(text: &[u8]) -> Kind {
+    let text = String::from_utf8_lossy(text);
+    let value = |key: &str| text.lines().find_map(|line| line.strip_prefix(key));
+    let number = |key: &str| value(key).and_then(|value| value.parse().ok()).unwrap_or(0);
+    match value("verdict=") {
+        Some(verdict) => Kind::Said(verdict.to_string()),
+        None => Kind::Refused(number("refused="), number("file=")),
+    }
+}
+
+impl Tally {
+    /// Counts an outcome.
+    pub fn count(&mut self, service: Service, outcome: &Outcome) {
+        *self.0.entry((service, kind(service, outcome))).or_default() += 1;
+    }
+
+    /// All calls.
+    pub fn calls(&self) -> u64 {
+        self.0.values().sum()
+    }
+
+    /// The faults of the whole: possible answers that never came, and answers that are not possible.
+    pub fn faults(&self) -> Vec<String> {
+        let mut faults = Vec::new();
+        for service in Service::ALL {
+            let possible = possible(service);
+            let missing = possible.iter().filter(|kind| self.get(service, kind) == 0);
+            faults.extend(missing.map(|kind| format!("{service:?} never answered: {kind}")));
+            let strange = self.0.keys().filter(|(of, kind)| *of == service && !possible.contains(kind));
+            faults.extend(strange.map(|(_, kind)| format!("{service:?} cannot answer: {kind}")));
+        }
+        faults
+    }
+
+    fn get(&self, service: Service, kind: &Kind) -> u64 {
+        self.0.get(&(service, kind.clone())).copied().unwrap_or(0)
+    }
+
+    /// A line of the table: a count for each service, `-` where the service cannot answer so.
+    fn line(&self, f: &mut fmt::Formatter<'_>, kind: &Kind) -> fmt::Result {
+        write!(f, "{:17}", kind.to_string())?;
+        for service in Service::ALL {
+            match possible(service).contains(kind) {
+                true => write!(f, " {:>7}", self.get(service, kind))?,
+                false => write!(f, " {:>7}", "-")?,
+            }
+        }
+        writeln!(f)
+    }
+}
+
+impl fmt::Display for Kind {
+    fn fmt(&self, f: &mut fmt::Formatter<'_>) -> fmt::Result {
+        match self {
+            Kind::Said(word) => f.write_str(word),
+            Kind::Refused(number, 0) => write!(f, "refused {number}"),
+            Kind::Refused(number, file) => write!(f, "refused {number}, file {file}"),
+        }
+    }
+}
+
+impl fmt::Display for Tally {
+    fn fmt(&self, f: &mut fmt::Formatter<'_>) -> fmt::Result {
+        write!(f, "{:17}", "")?;
+        Service::ALL.iter().try_for_each(|service| write!(f, " {service:>7}"))?;
+        writeln!(f)?;
+        WORDS.iter().try_for_each(|word| self.line(f, &Kind::Said(word.to_string())))?;
+        let refusals = [RULE, TAKE, SHEET, CALL].concat();
+        refusals.iter().try_for_each(|(number, file)| self.line(f, &Kind::Refused(*number, *file)))
+    }
+}
+
+#[cfg(test)]
+mod tests {
+    use super::*;
+
+    fn outcome(answer: Answer) -> Outcome {
+        Outcome { answer, inputs: vec![], output: vec![] }
+    }
+
+    #[test]
+    fn what_never_came_is_a_fault() {
+        let mut tally = Tally::default();
+        let before = tally.faults();
+        assert!(before.contains(&"ReadRule never answered: refused 5, file 1".to_string()));
+        tally.count(Service::ReadRule, &outcome(Answer::Refused(5, 1, 7)));
+        assert_eq!(tally.faults().len(), before.len() - 1);
+    }
+
+    #[test]
+    fn what_cannot_come_is_a_fault() {
+        let mut tally = Tally::default();
+        tally.count(Service::JudgeLooped, &outcome(Answer::Verdict("open".to_string())));
+        assert!(tally.faults().contains(&"JudgeLooped cannot answer: open".to_string()));
+    }
+
+    #[test]
+    fn texts_count_as_what_they_say() {
+        assert_eq!(kind_of_text(b"signals=1\nverdict=kept\n"), Kind::Said("kept".to_string()));
+        assert_eq!(kind_of_text(b"refused=6\nfile=2\nline=4\n"), Kind::Refused(6, 2));
+    }
+}
