@@ -1,0 +1,46 @@
+#!/usr/bin/env bash
+# Tries the library from C and from Rust: builds it, runs the C program over examples/, the tests of the Rust crates, the Rust program on
+# an example, and the comparison with the second implementation. Stops at the first failure; what a step printed is shown only then.
+#     rust/check.sh        CITRONHELM_LIB=FOLDER takes FOLDER/liblibrary.a in the place of building it
+set -euo pipefail
+cd "$(dirname "$0")/.."
+scratch=$(mktemp -d)
+trap 'rm -rf "$scratch"' EXIT
+
+quietly() {
+    "$@" >"$scratch/said" 2>&1 || { cat "$scratch/said" >&2; echo "rust/check.sh: failed: $*" >&2; exit 1; }
+}
+
+# The C program's answer on a rule and a take must be the file given last: the verdict, or a refusal's three lines.
+c_answers() {
+    "$scratch/judge" "$1" "$2" >"$scratch/answer"
+    diff "$scratch/answer" "$3"
+}
+
+# The Rust program's answer on a rule and a take must be the line given last.
+rust_answers() {
+    cargo run --offline --locked --release --example judge -- "$1" "$2" | tee "$scratch/answer" && grep -qx "$3" "$scratch/answer"
+}
+
+if [ -z "${CITRONHELM_LIB:-}" ]; then
+    quietly rt staticlib library
+    export CITRONHELM_LIB=$PWD/target/staticlib
+fi
+
+quietly cc -std=c99 -pedantic -Wall -Wextra -Werror -I include examples/c/judge.c "$CITRONHELM_LIB/liblibrary.a" -o "$scratch/judge"
+judged=0
+for folder in examples/*/; do
+    [ -e "${folder}rule.txt" ] && [ -e "${folder}take.txt" ] && [ -e "${folder}expected.txt" ] || continue
+    grep -E '^(verdict|refused|file|line)=' "${folder}expected.txt" >"$scratch/expected"
+    quietly c_answers "${folder}rule.txt" "${folder}take.txt" "$scratch/expected"
+    judged=$((judged + 1))
+done
+head -c 100000 /dev/zero >"$scratch/long"
+printf 'refused=1\nfile=1\nline=0\n' >"$scratch/expected"
+quietly c_answers "$scratch/long" "$scratch/absent" "$scratch/expected"
+
+cd rust
+quietly cargo test --offline --locked --release --workspace
+quietly rust_answers ../examples/rule_a/rule.txt ../examples/rule_a/take.txt verdict=holds
+cargo run --quiet --offline --locked --release -p compare
+echo "rust/check.sh: C judged $judged examples; the Rust crates' tests pass; library and second implementation agree"
