@@ -67,11 +67,11 @@ fn with_byte_changed(random: &mut Random, mut file: Vec<u8>) -> Vec<u8> {
 
 fn with_byte_inserted(random: &mut Random, mut file: Vec<u8>) -> Vec<u8> {
     let byte = if random.once_in(2) { random.byte() } else { *random.pick(&[&b' ', &b'0', &b'1', &b'\n', &b'=', &0]) };
-    file.insert(random.from_to(0, file.len()), byte);
+    file.insert(random.between(0, file.len()), byte);
     file
 }
 
-/// Another number in the place of one in the file; of one of the first lines more often.
+/// Another number in the place of one in the file, at times the next one; of one of the first lines more often.
 fn with_number_replaced(random: &mut Random, file: Vec<u8>) -> Vec<u8> {
     let is_start = |at: &usize| file[*at].is_ascii_digit() && !file[at - 1].is_ascii_digit();
     let starts: Vec<usize> = (1..file.len()).filter(is_start).collect();
@@ -81,7 +81,9 @@ fn with_number_replaced(random: &mut Random, file: Vec<u8>) -> Vec<u8> {
     let among = if random.once_in(2) { starts.len() } else { starts.len().min(6) };
     let start = starts[random.below(among)];
     let end = start + file[start..].iter().take_while(|byte| byte.is_ascii_digit()).count();
-    [&file[..start], random.pick(EDGES).as_bytes(), &file[end..]].concat()
+    let higher = String::from_utf8_lossy(&file[start..end]).parse().map_or(0, |number: u64| number.saturating_add(1));
+    let number = if random.once_in(3) { higher.to_string() } else { random.pick(EDGES).to_string() };
+    [&file[..start], number.as_bytes(), &file[end..]].concat()
 }
 
 /// A line removed, doubled, exchanged with another, or lines with carriage returns.
@@ -114,13 +116,13 @@ fn with_word_replaced(random: &mut Random, file: Vec<u8>) -> Vec<u8> {
     let Ok(text) = String::from_utf8(file.clone()) else { return file };
     let (old, new) = (random.pick(WORDS), random.pick(WORDS));
     let new = if random.once_in(4) { old.to_uppercase() } else { new.to_string() };
-    text.replacen(old, &new, random.from_to(1, 2)).into_bytes()
+    text.replacen(old, &new, random.between(1, 2)).into_bytes()
 }
 
 /// The end cut off at any place, or only the last line feed; or something behind the end.
 fn with_end_changed(random: &mut Random, mut file: Vec<u8>) -> Vec<u8> {
     match random.below(4) {
-        0 => file.truncate(random.from_to(0, file.len())),
+        0 => file.truncate(random.between(0, file.len())),
         1 => drop(file.pop()),
         2 => file.extend_from_slice(
             random.pick(&["\n", " ", "\0", "r1=true\n", "c0=1\n", "format=1\n", "z1=1\n"]).as_bytes(),
@@ -136,7 +138,7 @@ fn with_length_changed(random: &mut Random, mut file: Vec<u8>) -> Vec<u8> {
         0 => 0,
         1 => MOST_BYTES,
         2..=5 => MOST_BYTES + 1,
-        _ => MOST_BYTES + random.from_to(2, 1000),
+        _ => MOST_BYTES + random.between(2, 1000),
     };
     file.resize(length, *random.pick(&[&b'\n', &b'0', &b' ', &0]));
     file

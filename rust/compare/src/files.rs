@@ -36,48 +36,59 @@ impl Size {
     /// Any size up to `most`.
     pub fn up_to(random: &mut Random, most: Size) -> Size {
         Size {
-            signals: random.from_to(1, most.signals),
-            rows: random.from_to(1, most.rows),
-            cycles: random.from_to(1, most.cycles),
+            signals: random.between(1, most.signals),
+            rows: random.between(1, most.rows),
+            cycles: random.between(1, most.cycles),
         }
     }
 }
 
-/// A random rule. Half the operands are the row before, so that most rows are reached; some rules end in a row and its negation,
-/// so that nearly all rows are reached with both signs.
+/// A random rule. In some, every row behind the first ones has the row before as an operand, so that no row is left out; and some
+/// end in a row and its negation, so that every row below is reached with both signs. Both together give the largest normal forms.
 pub fn random_rule(random: &mut Random, size: Size) -> Vec<u8> {
+    let chained = random.once_in(2);
     let doubled = size.rows > 3 && random.once_in(4);
     let free = if doubled { size.rows - 2 } else { size.rows };
-    let mut rows: Vec<String> = (1..=free).map(|own| random_row(random, own, size.signals)).collect();
+    let mut rows: Vec<String> = Vec::new();
+    for own in 1..=free {
+        let leaf = own == 1 || if chained { own <= size.rows / 8 } else { random.once_in(4) };
+        let row = if leaf { random_leaf(random, size.signals) } else { random_operation(random, own, chained) };
+        rows.push(row);
+    }
     if doubled {
-        let word = random.pick(&["and", "or", "weak", "until", "release", "srelease"]);
         rows.push(format!("not {free}"));
-        rows.push(format!("{word} {free} {}", free + 1));
+        rows.push(format!("{} {free} {}", random.pick(BINARY), free + 1));
     }
     rule(size.signals, &rows)
 }
 
-fn random_row(random: &mut Random, own: usize, signals: usize) -> String {
-    if own == 1 || random.once_in(4) {
-        return match random.below(12) {
-            0 => "true".to_string(),
-            1 => "false".to_string(),
-            2..=6 => format!("nsig {}", random.from_to(1, signals)),
-            _ => format!("sig {}", random.from_to(1, signals)),
-        };
+/// The words of rows with one operand, and of those with two.
+pub const UNARY: &[&str] = &["not", "next", "always", "ever"];
+pub const BINARY: &[&str] = &["and", "or", "weak", "until", "release", "srelease"];
+
+fn random_leaf(random: &mut Random, signals: usize) -> String {
+    match random.below(12) {
+        0 => "true".to_string(),
+        1 => "false".to_string(),
+        2..=6 => format!("nsig {}", random.between(1, signals)),
+        _ => format!("sig {}", random.between(1, signals)),
     }
-    let mut operand = || if random.once_in(2) { own - 1 } else { random.from_to(1, own - 1) };
-    let (a, b) = (operand(), operand());
-    if random.once_in(2) {
-        format!("{} {a}", random.pick(&["not", "next", "always", "ever"]))
-    } else {
-        format!("{} {a} {b}", random.pick(&["and", "or", "weak", "until", "release", "srelease"]))
+}
+
+/// A row with operands: the row before half the time, and always where the rule is chained.
+fn random_operation(random: &mut Random, own: usize, chained: bool) -> String {
+    let a = if chained || random.once_in(2) { own - 1 } else { random.between(1, own - 1) };
+    let b = random.between(1, own - 1);
+    match random.below(4) {
+        0 => format!("{} {a}", random.pick(UNARY)),
+        1 => format!("{} {b} {a}", random.pick(BINARY)),
+        _ => format!("{} {a} {b}", random.pick(BINARY)),
     }
 }
 
 /// A random take, open once in two. Some are dense in ones, some sparse, and in some most cycles repeat the one before.
 pub fn random_take(random: &mut Random, size: Size) -> Vec<u8> {
-    let (ones, repeated) = (random.from_to(1, 7), random.below(3));
+    let (ones, repeated) = (random.between(1, 7), random.below(3));
     let mut cycles: Vec<String> = Vec::new();
     for _ in 0..size.cycles {
         match cycles.last() {
@@ -91,10 +102,22 @@ pub fn random_take(random: &mut Random, size: Size) -> Vec<u8> {
 
 /// A random sheet with so many rows, its root set in cycle 0 more often than not.
 pub fn random_sheet(random: &mut Random, rows: usize, cycles: usize) -> Vec<u8> {
-    let ones = random.from_to(0, 8);
+    let ones = random.between(0, 8);
     let mut lines: Vec<String> = (0..rows).map(|_| random.digits(cycles, ones)).collect();
     if !random.once_in(8) {
         lines[rows - 1].replace_range(..1, "1");
     }
     sheet(&lines)
+}
+
+#[cfg(test)]
+mod tests {
+    use super::*;
+
+    #[test]
+    fn the_largest_normal_form_comes() {
+        let mut random = Random::new(0);
+        let most = (0..200).map(|_| second::rows(&random_rule(&mut random, Size::MOST)).unwrap()).max();
+        assert_eq!(most, Some(125));
+    }
 }

@@ -1,4 +1,5 @@
-//! Holds the second implementation to the proved library: on the papers' cases, and on random calls of every service.
+//! Holds the second implementation to the proved library: on the papers' cases, on all small rules and takes, and on random calls of
+//! every service.
 //!
 //!     compare [--seed N] [--runs N]
 //!
@@ -12,12 +13,14 @@ mod call;
 mod cases;
 mod comparison;
 mod damage;
+mod exhaustive;
 mod files;
 mod implementations;
 mod random;
 mod tally;
 mod trials;
 
+use call::Call;
 use implementations::{by_proved, by_second};
 use random::Random;
 use std::process::ExitCode;
@@ -52,12 +55,13 @@ fn compare(options: &Options) -> Result<Tally, String> {
     cases::check(by_proved).map_err(|wrong| format!("the proved library is {wrong}"))?;
     cases::check(by_second).map_err(|wrong| format!("the second implementation is {wrong}"))?;
     let mut tally = Tally::default();
+    let mut make = |call: &Call| {
+        tally.count(call.service, &comparison::same(call, by_proved, by_second)?);
+        Ok(())
+    };
+    exhaustive::run(&mut make)?;
     for run in 0..options.runs {
-        let mut random = Random::new(options.seed.wrapping_mul(1 << 32).wrapping_add(run));
-        trials::run(&mut random, &mut |call| {
-            tally.count(call.service, &comparison::same(call, by_proved, by_second)?);
-            Ok(())
-        })?;
+        trials::run(&mut Random::new(options.seed.wrapping_mul(1 << 32).wrapping_add(run)), &mut make)?;
     }
     Ok(tally)
 }

@@ -22,7 +22,7 @@ impl Random {
     }
 
     /// A number from `first` through `last`.
-    pub fn from_to(&mut self, first: usize, last: usize) -> usize {
+    pub fn between(&mut self, first: usize, last: usize) -> usize {
         first + self.below(last - first + 1)
     }
 

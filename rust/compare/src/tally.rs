@@ -16,18 +16,36 @@ pub enum Kind {
 pub struct Tally(BTreeMap<(Service, Kind), u64>);
 
 const VERDICTS: &[&str] = &["holds", "breaks", "kept", "broken", "open"];
+const FINDINGS: &[&str] = &["root", "failed", "failed later", "starved", "pending", "passes"];
 const WORDS: &[&str] = &[
-    "accepted", "number", "written", "holds", "breaks", "kept", "broken", "open", "none", "root", "failed", "starved",
-    "pending", "passes",
+    "accepted",
+    "number",
+    "written",
+    "holds",
+    "breaks",
+    "kept",
+    "broken",
+    "open",
+    "none",
+    "root",
+    "failed",
+    "failed later",
+    "starved",
+    "pending",
+    "passes",
 ];
-const RULE: &[(u8, u8)] = &[(1, 1), (2, 1), (3, 1), (4, 1), (5, 1)];
-const TAKE: &[(u8, u8)] = &[(1, 2), (2, 2), (3, 2), (4, 2), (6, 2)];
-const SHEET: &[(u8, u8)] = &[(1, 3), (2, 3), (3, 3), (4, 3)];
-const CALL: &[(u8, u8)] = &[(2, 0), (7, 0), (8, 0), (9, 0), (10, 0)];
+
+/// Refusals, as number and file.
+type Refusals = &'static [(u8, u8)];
+
+const RULE: Refusals = &[(1, 1), (2, 1), (3, 1), (4, 1), (5, 1)];
+const TAKE: Refusals = &[(1, 2), (2, 2), (3, 2), (4, 2), (6, 2)];
+const SHEET: Refusals = &[(1, 3), (2, 3), (3, 3), (4, 3)];
+const CALL: Refusals = &[(2, 0), (7, 0), (8, 0), (9, 0), (10, 0)];
 
 /// The answers that a service can give: words, and refusals of files and calls.
 fn possible(service: Service) -> Vec<Kind> {
-    let (words, files, calls): (&[&str], &[&[(u8, u8)]], &[u8]) = match service {
+    let (words, files, calls): (&[&str], &[Refusals], &[u8]) = match service {
         Service::ReadRule => (&["accepted"], &[RULE], &[]),
         Service::ReadTake => (&["accepted"], &[TAKE], &[]),
         Service::ReadSheet => (&["accepted"], &[SHEET], &[]),
@@ -39,7 +57,7 @@ fn possible(service: Service) -> Vec<Kind> {
         Service::JudgeText => (VERDICTS, &[RULE, TAKE], &[7, 10]),
         Service::Step => (&["written"], &[RULE], &[2, 7, 9, 10]),
         Service::MakeSheet => (&["none", "written"], &[RULE, TAKE], &[7, 10]),
-        Service::CheckSheet => (&["root", "failed", "starved", "pending", "passes"], &[RULE, TAKE, SHEET], &[7, 9]),
+        Service::CheckSheet => (FINDINGS, &[RULE, TAKE, SHEET], &[7, 9]),
     };
     let said = words.iter().map(|word| Kind::Said(word.to_string()));
     let of_files = files.concat().into_iter().map(|(number, file)| Kind::Refused(number, file));
@@ -47,7 +65,8 @@ fn possible(service: Service) -> Vec<Kind> {
     said.chain(of_files).chain(of_calls).collect()
 }
 
-/// The kind of an answer. What `judge` prints counts as what it says.
+/// The kind of an answer. What `judge` prints counts as what it says; failures behind the take's last cycle, in a later round of the
+/// loop, count apart.
 fn kind(service: Service, outcome: &Outcome) -> Kind {
     let word = match &outcome.answer {
         Answer::Refused(number, file, _) => return Kind::Refused(*number, *file),
@@ -56,10 +75,16 @@ fn kind(service: Service, outcome: &Outcome) -> Kind {
         Answer::Number(_) if matches!(service, Service::Bound | Service::Rows) => "number",
         Answer::Number(_) => "written",
         Answer::Verdict(word) => word,
+        Answer::Finding("failed", _, cycle) if *cycle >= cycles(&outcome.inputs[1]) => "failed later",
         Answer::Finding(word, _, _) => word,
         Answer::None => "none",
     };
     Kind::Said(word.to_string())
+}
+
+/// The cycles of a valid take: its lines but for the first four.
+fn cycles(take: &[u8]) -> usize {
+    take.iter().filter(|byte| **byte == b'\n').count() - 4
 }
 
 /// What a text of `judge` says.

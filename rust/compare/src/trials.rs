@@ -46,7 +46,7 @@ fn random_size(random: &mut Random) -> Size {
 /// A rule, a take that seldom has other signals, and the sheet that is made or a random one, seldom of another size.
 fn random_files(random: &mut Random, size: Size) -> Files {
     let rule = random_rule(random, size);
-    let signals = if random.once_in(16) { random.from_to(1, 32) } else { size.signals };
+    let signals = if random.once_in(16) { random.between(1, 32) } else { size.signals };
     let take = random_take(random, Size { signals, ..size });
     let rows = rows(&rule);
     let sheet = match written(&Service::MakeSheet.of(&[&rule, &take])) {
@@ -91,7 +91,7 @@ fn on_files(random: &mut Random, files: &Files, make: Make) -> Result<(), String
 /// shorter one.
 fn with_outputs(random: &mut Random, call: Call, make: Make) -> Result<(), String> {
     let lengths = match written(&call).map(|output| output.len()) {
-        Some(length) => vec![length, length - 1, length + random.from_to(1, 40), random.below(length)],
+        Some(length) => vec![length, length - 1, length + random.between(1, 40), random.below(length)],
         None => vec![random.below(100)],
     };
     for length in lengths {
@@ -103,7 +103,7 @@ fn with_outputs(random: &mut Random, call: Call, make: Make) -> Result<(), Strin
 /// A few cycles of the monitors from a fresh start, each with some wrong calls beside it.
 fn steps(random: &mut Random, rule: &[u8], signals: usize, make: Make) -> Result<(), String> {
     let rows = rows(rule);
-    let ones = random.from_to(0, 8);
+    let ones = random.between(0, 8);
     let mut pendings = "0".repeat(rows).into_bytes();
     for _ in 0..4 {
         let activators = random.digits(rows, ones).into_bytes();
@@ -121,8 +121,8 @@ fn steps(random: &mut Random, rule: &[u8], signals: usize, make: Make) -> Result
 /// The step with a byte that is no digit, or a digit too many or too few, in one or more of its inputs.
 fn wrong_step(random: &mut Random, call: &Call) -> Call {
     let mut call = call.clone();
-    for _ in 0..random.from_to(1, 2) {
-        let input = &mut call.inputs[random.from_to(1, 3)];
+    for _ in 0..random.between(1, 2) {
+        let input = &mut call.inputs[random.between(1, 3)];
         let at = random.below(input.len().max(1));
         match random.below(3) {
             0 => input.push(b'0'),
@@ -134,18 +134,20 @@ fn wrong_step(random: &mut Random, call: &Call) -> Call {
     call
 }
 
-/// The sheet with some digits turned, or with a row cleared.
+/// The sheet with one to three rows changed in one of three ways: a digit turned; the last digit set, which is felt in the next
+/// round; all digits cleared, of rows that are not the root's.
 fn with_digits_changed(random: &mut Random, sheet: &[u8]) -> Vec<u8> {
     let mut lines: Vec<Vec<u8>> = sheet.split_inclusive(|byte| *byte == b'\n').map(<[u8]>::to_vec).collect();
-    let clear = random.once_in(2);
-    for _ in 0..random.from_to(1, 3) {
-        let line = random.from_to(3, lines.len() - 1);
-        let start = lines[line].iter().position(|byte| *byte == b'=').map_or(0, |equals| equals + 1);
-        let end = lines[line].len() - 1;
-        let turned = random.from_to(start, end - 1);
-        match clear {
-            true => lines[line][start..end].fill(b'0'),
-            false => lines[line][turned] ^= 1,
+    let (first, root) = (3, lines.len() - 1);
+    let way = random.below(if first < root { 3 } else { 2 });
+    for _ in 0..random.between(1, 3) {
+        let line = &mut lines[random.between(first, if way == 2 { root - 1 } else { root })];
+        let start = 1 + line.iter().position(|byte| *byte == b'=').expect("each line has a key");
+        let last = line.len() - 2;
+        match way {
+            0 => line[random.between(start, last)] ^= 1,
+            1 => line[last] = b'1',
+            _ => line[start..=last].fill(b'0'),
         }
     }
     lines.concat()
