@@ -7,13 +7,13 @@ pub type Implementation = fn(&Call) -> Outcome;
 
 /// Makes a call by both implementations. Their outcome if it is the same: answer, inputs and every byte of the output. The
 /// difference, with all that repeating the call needs, if it is not.
-pub fn same(call: &Call, proved: Implementation, second: Implementation) -> Result<Outcome, String> {
-    let (left, right) = (proved(call), second(call));
+pub fn same(call: &Call, proved: Implementation, other: Implementation) -> Result<Outcome, String> {
+    let (left, right) = (proved(call), other(call));
     if left == right {
         Ok(left)
     } else {
         let lent = call.output.escape_ascii();
-        Err(format!("different: {call}  lent b\"{lent}\"\nproved: {left}\nsecond: {right}"))
+        Err(format!("different: {call}  lent b\"{lent}\"\nproved: {left}\nother: {right}"))
     }
 }
 

@@ -44,15 +44,17 @@ impl Size {
 }
 
 /// A random rule. In some, every row behind the first ones has the row before as an operand, so that no row is left out; and some
-/// end in a row and its negation, so that every row below is reached with both signs. Both together give the largest normal forms.
+/// end in a row and its negation, so that every row below is reached with both signs. Both together, without another `not`,
+/// give the largest normal forms.
 pub fn random_rule(random: &mut Random, size: Size) -> Vec<u8> {
     let chained = random.once_in(2);
     let doubled = size.rows > 3 && random.once_in(4);
     let free = if doubled { size.rows - 2 } else { size.rows };
+    let unary = if chained && doubled { WITHOUT_NOT } else { UNARY };
     let mut rows: Vec<String> = Vec::new();
     for own in 1..=free {
         let leaf = own == 1 || if chained { own <= size.rows / 8 } else { random.once_in(4) };
-        let row = if leaf { random_leaf(random, size.signals) } else { random_operation(random, own, chained) };
+        let row = if leaf { random_leaf(random, size.signals) } else { random_operation(random, own, chained, unary) };
         rows.push(row);
     }
     if doubled {
@@ -62,8 +64,9 @@ pub fn random_rule(random: &mut Random, size: Size) -> Vec<u8> {
     rule(size.signals, &rows)
 }
 
-/// The words of rows with one operand, and of those with two.
+/// The words of rows with one operand, all or without `not`, and of those with two.
 pub const UNARY: &[&str] = &["not", "next", "always", "ever"];
+const WITHOUT_NOT: &[&str] = &["next", "always", "ever"];
 pub const BINARY: &[&str] = &["and", "or", "weak", "until", "release", "srelease"];
 
 fn random_leaf(random: &mut Random, signals: usize) -> String {
@@ -76,11 +79,11 @@ fn random_leaf(random: &mut Random, signals: usize) -> String {
 }
 
 /// A row with operands: the row before half the time, and always where the rule is chained.
-fn random_operation(random: &mut Random, own: usize, chained: bool) -> String {
+fn random_operation(random: &mut Random, own: usize, chained: bool, unary: &[&str]) -> String {
     let a = if chained || random.once_in(2) { own - 1 } else { random.between(1, own - 1) };
     let b = random.between(1, own - 1);
     match random.below(4) {
-        0 => format!("{} {a}", random.pick(UNARY)),
+        0 => format!("{} {a}", random.pick(unary)),
         1 => format!("{} {b} {a}", random.pick(BINARY)),
         _ => format!("{} {a} {b}", random.pick(BINARY)),
     }

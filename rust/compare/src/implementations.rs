@@ -1,4 +1,4 @@
-//! The two implementations, called alike.
+//! The implementations, called alike.
 
 use crate::call::{Answer, Call, Outcome, Service};
 
@@ -35,6 +35,13 @@ pub fn by_proved(call: &Call) -> Outcome {
 /// What the second implementation answers and leaves.
 pub fn by_second(call: &Call) -> Outcome {
     ask!(second, call)
+}
+
+/// What the bit-parallel judge answers; it has that one service.
+pub fn by_words(call: &Call) -> Outcome {
+    let Call { inputs, output, .. } = call.clone();
+    let answer = answer(bitparallel::judge(&inputs[0], &inputs[1]), verdict);
+    Outcome { answer, inputs, output }
 }
 
 fn answer<T, R: Into<Answer>>(result: Result<T, R>, answered: impl FnOnce(T) -> Answer) -> Answer {

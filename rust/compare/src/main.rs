@@ -3,9 +3,9 @@
 //!
 //!     compare [--seed N] [--runs N]
 //!
-//! Every call is made by both; answer, inputs and the whole output must be the same. At the first difference the inputs are
-//! printed, and the program fails. It also fails where a service never gave one of its possible answers: then the calls did not
-//! try everything.
+//! Every call is made by both, those of `judge` by the bit-parallel judge as well; answer, inputs and the whole output must be the
+//! same. At the first difference the inputs are printed, and the program fails. It also fails where a service never gave one of
+//! its possible answers: then the calls did not try everything.
 
 #![forbid(unsafe_code)]
 
@@ -20,8 +20,9 @@ mod random;
 mod tally;
 mod trials;
 
-use call::Call;
-use implementations::{by_proved, by_second};
+use call::{Call, Service};
+use comparison::same;
+use implementations::{by_proved, by_second, by_words};
 use random::Random;
 use std::process::ExitCode;
 use tally::Tally;
@@ -56,7 +57,10 @@ fn compare(options: &Options) -> Result<Tally, String> {
     cases::check(by_second).map_err(|wrong| format!("the second implementation is {wrong}"))?;
     let mut tally = Tally::default();
     let mut make = |call: &Call| {
-        tally.count(call.service, &comparison::same(call, by_proved, by_second)?);
+        tally.count(call.service, &same(call, by_proved, by_second)?);
+        if call.service == Service::Judge {
+            same(call, by_proved, by_words)?;
+        }
         Ok(())
     };
     exhaustive::run(&mut make)?;
