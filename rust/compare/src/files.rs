@@ -89,18 +89,31 @@ fn random_operation(random: &mut Random, own: usize, chained: bool, unary: &[&st
     }
 }
 
-/// A random take, open once in two. Some are dense in ones, some sparse, and in some most cycles repeat the one before.
+/// A random take, open once in two. In some, each cycle is drawn anew; in some, most cycles repeat the one before; in some, all are alike
+/// but for a few, so that much depends on one cycle.
 pub fn random_take(random: &mut Random, size: Size) -> Vec<u8> {
-    let (ones, repeated) = (random.between(1, 7), random.below(3));
-    let mut cycles: Vec<String> = Vec::new();
-    for _ in 0..size.cycles {
-        match cycles.last() {
-            Some(last) if repeated > 0 && !random.once_in(8) => cycles.push(last.clone()),
-            _ => cycles.push(random.digits(size.signals, ones)),
-        }
+    let (ones, style) = (random.between(1, 7), random.below(3));
+    let mut cycles = vec![random.digits(size.signals, ones)];
+    while cycles.len() < size.cycles {
+        let anew = style == 0 || style == 1 && random.once_in(8);
+        cycles.push(if anew { random.digits(size.signals, ones) } else { cycles[cycles.len() - 1].clone() });
     }
-    let start = random.below(size.cycles).to_string();
+    for _ in 0..random.between(1, 3) {
+        let cycle = random_cycle(random, size.cycles);
+        cycles[cycle] = random.digits(size.signals, ones);
+    }
+    let start = random_cycle(random, size.cycles).to_string();
     take(if random.once_in(2) { "none" } else { &start }, &cycles)
+}
+
+/// Any cycle, or one beside a multiple of 64, counted from the front or from the back: there words of bits may end.
+fn random_cycle(random: &mut Random, cycles: usize) -> usize {
+    let edge = (64 * random.below(5)).saturating_sub(random.below(2)).min(cycles - 1);
+    match random.below(4) {
+        0 => edge,
+        1 => cycles - 1 - edge,
+        _ => random.below(cycles),
+    }
 }
 
 /// A random sheet with so many rows, its root set in cycle 0 more often than not.

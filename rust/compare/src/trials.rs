@@ -33,12 +33,13 @@ pub fn run(random: &mut Random, make: Make) -> Result<(), String> {
     steps(random, &files.rule, size.signals, make)
 }
 
-/// Mostly small, sometimes of any size, seldom of full size.
+/// Mostly small, sometimes with many cycles or of any size, seldom of full size.
 fn random_size(random: &mut Random) -> Size {
     match random.below(128) {
         0 => Size::MOST,
         1 => Size::up_to(random, Size::MOST),
         2..=16 => Size::up_to(random, Size { signals: 8, rows: 24, cycles: 32 }),
+        17..=32 => Size::up_to(random, Size { signals: 3, rows: 8, cycles: 256 }),
         _ => Size::up_to(random, Size { signals: 3, rows: 8, cycles: 6 }),
     }
 }
