@@ -40,6 +40,7 @@ printf 'refused=1\nfile=1\nline=0\n' >"$scratch/expected"
 quietly c_answers "$scratch/long" "$scratch/absent" "$scratch/expected"
 
 cd rust
+export RUSTFLAGS="-D warnings"
 quietly cargo test --offline --locked --release --workspace
 quietly rust_answers ../examples/rule_a/rule.txt ../examples/rule_a/take.txt verdict=holds
 cargo run --quiet --offline --locked --release -p compare

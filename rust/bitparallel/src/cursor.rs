@@ -43,11 +43,13 @@ impl<'a> Cursor<'a> {
     }
 
     /// Begins a line whose key is a letter and a number.
+    #[inline]
     pub fn numbered_line(&mut self, letter: u8, number: usize) -> Result<(), Refusal> {
-        let (text, length) = &TAILS[number];
+        let (key, length) = KEYS[number];
         self.line += 1;
-        self.require(self.rest.first() == Some(&letter) && self.rest[1..].starts_with(&text[..*length]), 2)?;
-        self.rest = &self.rest[1 + length..];
+        let differences = loaded(self.rest) ^ (key | u64::from(letter));
+        self.require(differences << (64 - 8 * length) == 0, 2)?;
+        self.rest = &self.rest[length..];
         Ok(())
     }
 
@@ -92,18 +94,28 @@ impl<'a> Cursor<'a> {
     }
 }
 
-/// The numbers 0 to 256 with an equals sign behind, and the lengths of these texts.
-static TAILS: [([u8; 4], usize); 257] = tails();
+/// The first eight bytes, the first lowest; zeros where there are fewer.
+#[inline]
+fn loaded(bytes: &[u8]) -> u64 {
+    match bytes.first_chunk() {
+        Some(eight) => u64::from_le_bytes(*eight),
+        None => bytes.iter().rev().fold(0, |word, byte| word << 8 | u64::from(*byte)),
+    }
+}
 
-const fn tails() -> [([u8; 4], usize); 257] {
-    let mut all = [([b'='; 4], 0); 257];
+/// The keys with the numbers 0 to 256, as eight bytes: a place for the letter, the number, an equals sign; and their lengths.
+static KEYS: [(u64, usize); 257] = keys();
+
+const fn keys() -> [(u64, usize); 257] {
+    let mut all = [(0, 0); 257];
     let mut number = 0;
     while number < 257 {
-        let digits = [b'0' + (number / 100) as u8, b'0' + (number / 10 % 10) as u8, b'0' + (number % 10) as u8];
+        let [hundreds, tens, ones] = [number / 100, number / 10 % 10, number % 10];
+        let (h, t, o) = (b'0' + hundreds as u8, b'0' + tens as u8, b'0' + ones as u8);
         all[number] = match number {
-            0..=9 => ([digits[2], b'=', 0, 0], 2),
-            10..=99 => ([digits[1], digits[2], b'=', 0], 3),
-            _ => ([digits[0], digits[1], digits[2], b'='], 4),
+            0..=9 => (u64::from_le_bytes([0, o, b'=', 0, 0, 0, 0, 0]), 3),
+            10..=99 => (u64::from_le_bytes([0, t, o, b'=', 0, 0, 0, 0]), 4),
+            _ => (u64::from_le_bytes([0, h, t, o, b'=', 0, 0, 0]), 5),
         };
         number += 1;
     }

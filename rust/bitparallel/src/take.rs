@@ -48,20 +48,28 @@ fn read_start(cursor: &mut Cursor, cycles: usize) -> Result<Option<usize>, Refus
 /// Reads the digits of a cycle, eight at a time; signal 1 is the lowest bit.
 #[inline]
 fn read_cycle(cursor: &mut Cursor, signals: usize) -> Result<u32, Refusal> {
-    cursor.require(cursor.rest.len() > signals && cursor.rest[signals] == b'\n', 2)?;
+    cursor.require(cursor.rest.get(signals) == Some(&b'\n'), 2)?;
     let (digits, rest) = cursor.rest.split_at(signals);
+    let (eights, others) = digits.as_chunks();
     let (mut word, mut wrong) = (0, 0);
-    for (chunk, eight) in digits.chunks(8).enumerate() {
-        let mut bytes = [b'0'; 8];
-        bytes[..eight.len()].copy_from_slice(eight);
-        let bits = u64::from_le_bytes(bytes) ^ u64::from_le_bytes([b'0'; 8]);
-        wrong |= bits & !u64::from_le_bytes([1; 8]);
+    for (chunk, eight) in eights.iter().enumerate() {
+        let bits = u64::from_le_bytes(*eight) ^ DIGITS;
+        wrong |= bits & !ONES;
         word |= (gathered(bits) as u32) << (8 * chunk);
+    }
+    for (place, digit) in others.iter().enumerate() {
+        let bit = digit ^ b'0';
+        wrong |= u64::from(bit & !1);
+        word |= u32::from(bit) << (8 * eights.len() + place);
     }
     cursor.require(wrong == 0, 2)?;
     cursor.rest = &rest[1..];
     Ok(word)
 }
+
+/// Eight digits 0, and the bits in which digits 0 and 1 differ.
+const DIGITS: u64 = u64::from_le_bytes([b'0'; 8]);
+const ONES: u64 = u64::from_le_bytes([1; 8]);
 
 /// The lowest bits of eight bytes, which have no others, in one byte: the factor takes bit 8k to bit 56 + k, and no two products
 /// meet, so that nothing carries.

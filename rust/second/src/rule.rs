@@ -12,7 +12,6 @@ pub const MOST_SIGNALS: usize = 32;
 
 /// A row with the numbers of its signal or operands; both count from 1.
 #[derive(Clone, Copy, Debug, PartialEq, Eq)]
-#[allow(missing_docs)]
 pub enum Row {
     True,
     False,

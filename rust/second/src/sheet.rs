@@ -18,18 +18,28 @@ pub struct Sheet {
     pub cycles: usize,
 }
 
-/// What a check finds; rows count from 1, cycles along the endless take from 0.
+/// What a check finds; rows count from 1, cycles from 0 along the endless take.
 #[derive(Clone, Copy, Debug, PartialEq, Eq)]
-#[allow(missing_docs)]
 pub enum Finding {
     /// The root is not set in cycle 0.
     Root,
-    /// The earliest failure, and the lowest row that fails then.
-    Failed { row: usize, cycle: usize },
-    /// The lowest row whose accept stops returning.
-    Starved { row: usize },
-    /// The lowest row that is pending in the last cycle.
-    Pending { row: usize },
+    /// A monitor fails.
+    Failed {
+        /// The lowest row that fails in that cycle.
+        row: usize,
+        /// The earliest cycle in which one fails.
+        cycle: usize,
+    },
+    /// The accept of a row stops returning.
+    Starved {
+        /// The lowest such row.
+        row: usize,
+    },
+    /// A row is pending in the last cycle.
+    Pending {
+        /// The lowest such row.
+        row: usize,
+    },
     /// None of these.
     Passes,
 }
