@@ -24,8 +24,10 @@ rust_answers() {
 
 if [ -z "${CITRONHELM_LIB:-}" ]; then
     quietly rt staticlib library
-    export CITRONHELM_LIB=$PWD/target/staticlib
+    CITRONHELM_LIB=target/staticlib
 fi
+CITRONHELM_LIB=$(realpath "$CITRONHELM_LIB")
+export CITRONHELM_LIB
 
 quietly cc -std=c99 -pedantic -Wall -Wextra -Werror -I include examples/c/judge.c "$CITRONHELM_LIB/liblibrary.a" -o "$scratch/judge"
 judged=0
