@@ -27,6 +27,7 @@ macro_rules! ask {
         Outcome { answer, inputs, output }
     }};
 }
+
 /// What the proved library answers and leaves.
 pub fn by_proved(call: &Call) -> Outcome {
     ask!(citronhelm, call)
