@@ -1,15 +1,15 @@
 -- Digits 0 and 1: as a loop checks them, and their written form. Assumes nothing.
 use mathlib.Core.Path.{_≡_, refl, sym, ap, ap₂, _∙_, subst}
-use mathlib.Core.Bool.{Bool, true, false}
+use mathlib.Core.Bool.{Bool, true, false, _&&_}
 use mathlib.Core.List.{List, [], _∷_, map}
 use Prim.Native.Nat.{ℕ, suc, _+_, _-_, _≤_, _<_}
 use native.Mathlib.Numerals.{add-one}
 use native.Mathlib.Omega.{arith}
 use native.Mathlib.Decide.{decLt}
-use lib.Dec.{ltb, eqb}
+use lib.Dec.{ltb, leb, eqb}
 use lib.ListN.{length, getD, drop, length-map, length-take, length-drop}
 use lib.Seq.{drop-cons, drop-length}
-use borrow.Author.Tests.{lt-ltb, le-ltb, eq-eqb, ne-eqb, eqb-true, eqb-false}
+use borrow.Author.Tests.{lt-ltb, le-ltb, le-leb, lt-leb, eq-eqb, ne-eqb, eqb-true, eqb-false}
 use Rattle.tables.specs.Choice.{pick}
 use Rattle.tables.specs.declared.refusal.Reason.the-variants.{WrongForm}
 use Rattle.text.specs.Search.{part}
@@ -23,31 +23,55 @@ use Rattle.text.specs.Result.Parsed.{good, bad}
 use Rattle.text.proofs.Searching.{clash, each-pick}
 use Rattle.text.proofs.Lines.{Free}
 
--- the first i bytes are digits
-pub record DigitsTo (s : List ℕ) (i : ℕ) : Type 0 where
-  pub within : i ≤ length s
-  pub goes : areDigits s ≡ areDigits (drop i s)
+-- one digit, and one more in front of others
+pub digit-is : (d : ℕ) → leb 48 d && leb d 49 ≡ areDigits (d ∷ [])
+unfolding areDigits
+digit-is d = by (decLt d 48) (decLt 49 d)
+  where
+    by : Dec (d < 48) → Dec (49 < d) → leb 48 d && leb d 49 ≡ pick (ltb d 48) false (pick (ltb 49 d) false true)
+    by (yes l) u = rw (lt-leb 48 d l, lt-ltb d 48 l)
+    by (no l) (yes u) = let k : 48 ≤ d = omega arith in rw (le-leb 48 d k, lt-leb d 49 u, le-ltb d 48 k, lt-ltb 49 d u)
+    by (no l) (no u) =
+        let k : 48 ≤ d = omega arith in
+        let m : d ≤ 49 = omega arith in
+        rw (le-leb 48 d k, le-leb d 49 m, le-ltb d 48 k, le-ltb 49 d m)
 
-pub digits-start : (s : List ℕ) → DigitsTo s 0
+digits-cons : (d : ℕ) (ds : List ℕ) → areDigits (d ∷ ds) ≡ areDigits (d ∷ []) && areDigits ds
+unfolding areDigits
+digits-cons d ds = by (ltb d 48) (ltb 49 d)
+  where
+    by : (a b : Bool) → pick a false (pick b false (areDigits ds)) ≡ pick a false (pick b false true) && areDigits ds
+    by true b = refl
+    by false true = refl
+    by false false = refl
+
+-- whether the first i bytes are digits is `all`
+pub record DigitsTo (s : List ℕ) (all : Bool) (i : ℕ) : Type 0 where
+  pub within : i ≤ length s
+  pub goes : areDigits s ≡ all && areDigits (drop i s)
+
+pub digits-start : (s : List ℕ) → DigitsTo s true 0
 digits-start s = record { within = omega arith; goes = refl }
 
-module _ {s : List ℕ} {i : ℕ} (inv : DigitsTo s i) where
-  module _ (h : i < length s) where
-    pub digit-below : getD s i 0 < 48 → false ≡ areDigits s
-    unfolding areDigits
-    digit-below l = rw (inv .goes, drop-cons s i 0 h, lt-ltb (getD s i 0) 48 l)
+module _ {s : List ℕ} {all : Bool} {i : ℕ} (inv : DigitsTo s all i) where
+  pub digits-more : {b : Bool} → i < length s → b ≡ areDigits (getD s i 0 ∷ []) → DigitsTo s (all && b) (i + 1)
+  digits-more {b} h e =
+      let d : areDigits (drop i s) ≡ b && areDigits (drop (i + 1) s) = rw (drop-cons s i 0 h, digits-cons (getD s i 0) (drop (suc i) s), ← e, add-one) in
+      record { within = omega arith; goes = inv .goes ∙ (ap (λ x. all && x) d ∙ grouped all) }
+    where
+      grouped : (a : Bool) → a && (b && areDigits (drop (i + 1) s)) ≡ (a && b) && areDigits (drop (i + 1) s)
+      grouped true = refl
+      grouped false = refl
 
-    pub digit-above : 48 ≤ getD s i 0 → 49 < getD s i 0 → false ≡ areDigits s
-    unfolding areDigits
-    digit-above l u = rw (inv .goes, drop-cons s i 0 h, le-ltb (getD s i 0) 48 l, lt-ltb 49 (getD s i 0) u)
-
-    pub digit-more : 48 ≤ getD s i 0 → getD s i 0 ≤ 49 → DigitsTo s (i + 1)
-    unfolding areDigits
-    digit-more l u = record { within = omega arith; goes = rw (inv .goes, drop-cons s i 0 h, le-ltb (getD s i 0) 48 l, le-ltb 49 (getD s i 0) u, add-one) }
-
-  pub digits-end : length s ≤ i → true ≡ areDigits s
-  unfolding areDigits
-  digits-end l = let e : i ≡ length s = omega arith in rw (inv .goes, e, drop-length)
+  pub digits-end : length s ≤ i → all ≡ areDigits s
+  digits-end l =
+      let e : i ≡ length s = omega arith in
+      let d : areDigits (drop i s) ≡ true = rw (e, drop-length) (unfold areDigits in refl) in
+      sym (inv .goes ∙ (ap (λ x. all && x) d ∙ whole all))
+    where
+      whole : (a : Bool) → a && true ≡ a
+      whole true = refl
+      whole false = refl
 
 -- a part has the length that its ends say
 pub part-length : {A : Type 0} (a e : ℕ) (s : List A) → e ≤ length s → length (part a e s) ≡ e - a
@@ -91,7 +115,7 @@ digits-free [] = tt
 digits-free (d ∷ ds) = (λ q. let w = digit-written d in omega (arith, w .0), digits-free ds)
 
 -- and back
-text-of-digits : (v : List ℕ) → areDigits v ≡ true → v ≡ digitsText (digitsIn v)
+pub text-of-digits : (v : List ℕ) → areDigits v ≡ true → v ≡ digitsText (digitsIn v)
 unfolding areDigits
 text-of-digits [] e = refl
 text-of-digits (d ∷ ds) e = by (decLt d 48) (decLt 49 d) (text-of-digits ds) e

@@ -3,6 +3,7 @@ pub mod Numbers
 pub mod Lines
 pub mod Bodies
 pub mod DigitLines
+pub mod DigitCuts
 pub mod Counts
 pub mod Headers
 pub mod Elements

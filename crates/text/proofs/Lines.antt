@@ -143,10 +143,10 @@ drop-take (suc a) (suc e) [] = rw (drop-nil, take-nil)
 drop-take (suc a) (suc e) (x ∷ xs) = rw suc-sub-suc (drop-take a e xs)
 
 module _ (key value rest : List ℕ) where
-  front : List ℕ
+  pub front : List ℕ
   front = key ++ (61 ∷ value)
 
-  front-length : length front ≡ length key + 1 + length value
+  pub front-length : length front ≡ length key + 1 + length value
   unfolding front
   front-length = rw length-append (omega arith)
 
@@ -155,7 +155,7 @@ module _ (key value rest : List ℕ) where
   by-front = sym (append-assoc key (61 ∷ value) (10 ∷ rest))
 
   module _ (k₁ : Free 10 key) (k₂ : Free 61 key) (v : Free 10 value) where
-    cut-written : cutOf (writtenLine key value rest) ≡ Line (length key) (length front)
+    pub cut-written : cutOf (writtenLine key value rest) ≡ Line (length key) (length front)
     unfolding cutOf front
     cut-written =
         let f : Free 10 (key ++ (61 ∷ value)) = free-append 10 key (61 ∷ value) k₁ (λ q. omega arith, v) in
