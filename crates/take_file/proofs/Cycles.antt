@@ -1,47 +1,56 @@
--- The lines of the signals, cycle by cycle. Assumes nothing.
-use mathlib.Core.Path.{_≡_, sym, ap, _∙_}
-use mathlib.Core.Bool.{Bool, false}
+-- The words of the signals, digit by digit and cycle by cycle, and the lines from them. Assumes nothing.
+use mathlib.Core.Path.{_≡_, refl, sym, ap, ap₂, _∙_}
+use mathlib.Core.Bool.{Bool, true, false}
 use mathlib.Core.List.{List, [], _∷_, _++_}
-use Prim.Native.Nat.{ℕ, _+_, _≤_, _<_}
-use native.Mathlib.Nat.{le-refl}
+use Prim.Native.Nat.{ℕ, zero, suc, _+_, _*_, _/_, _%_, _^_, _≤_, _<_}
+use native.Mathlib.Nat.{add-zero, le-refl}
 use native.Mathlib.Numerals.{add-one}
 use native.Mathlib.Omega.{arith}
 use native.Mathlib.Decide.{ℕ-discrete}
 use lib.Dec.{eqb}
-use lib.ListN.{length, getD, take, set, replicate, List·getD-eq-default, List·getD-map}
-use lib.Seq.{take-suc, take-all, length-take-le, getD-append-seam}
-use borrow.Author.Tests.{ne-eqb}
+use lib.ListN.{length, getD, take, set, replicate, length-set, length-replicate, List·getD-eq-default, List·getD-map}
+use lib.Seq.{take-suc, take-all, length-take-le, getD-append-seam, getD-set-same, getD-set-other, ext-getD}
+use borrow.Author.Tests.{eq-eqb, ne-eqb}
 use Rattle.tables.specs.Choice.{pick}
-use Rattle.tables.specs.Place.{tabulate}
-use Rattle.tables.specs.Bit.{lineOf, marked}
+use Rattle.tables.specs.Place.{tabulateFrom, tabulate}
+use Rattle.tables.specs.Bit.{wordFrom, lineOf, marked}
 use Rattle.tables.specs.declared.trace.Line.{Line}
 use Rattle.tables.proofs.Places.{length-tabulate, tabulate-getD, getD-tabulate, tabulate-ext, set-tabulate, replicate-tabulate, snoc-other}
+use Rattle.tables.proofs.Bits.{word-ext, word-of}
 use Rattle.tables.proofs.Marks.{line-none, bit-room, line-digit}
 use Rattle.text.specs.Digits.{digitsIn}
-use Rattle.take_file.specs.Cycle.{lineAt, cyclePut, RoomAt}
+use Rattle.take_file.specs.Cycle.{added, cyclePut, RoomAt, lineFrom, linesFrom}
 use Rattle.take_file.specs.Take.{digit, linesOf}
 
 -- ---- the digits of one cycle, one after the other: the first s are put
-pub record PutAt (before : List Line) (value : List ℕ) (cycle s : ℕ) (lines : List Line) : Type 0 where
+pub record PutAt (before value : List ℕ) (cycle s : ℕ) (words : List ℕ) : Type 0 where
   pub within : s ≤ length value
-  pub goes : lines ≡ cyclePut before (take s value) cycle
+  pub goes : words ≡ cyclePut before (take s value) cycle
 
-pub put-start : {before : List Line} {value : List ℕ} {cycle : ℕ} → length before ≡ 32 → PutAt before value cycle 0 before
+pick-same : (t : Bool) → _≡_ {A = ℕ} (pick t 0 0) 0
+pick-same true = refl
+pick-same false = refl
+
+pub put-start : {before value : List ℕ} {cycle : ℕ} → length before ≡ 128 → PutAt before value cycle 0 before
 unfolding cyclePut
-put-start {before} e = record { within = omega arith; goes = sym (tabulate-getD before 32 (record { words = [] }) e) }
+put-start {before} {value} {cycle} e =
+    record {
+      within = omega arith;
+      goes = sym (tabulate-ext 128 (λ i. getD before i 0 + added [] cycle i) (λ i. getD before i 0) (λ i h. rw (pick-same (eqb (i / 32) (cycle / 64)), add-zero)) ∙ tabulate-getD before 128 0 e);
+    }
 
-module _ {before : List Line} {value : List ℕ} {cycle s : ℕ} {lines : List Line} (inv : PutAt before value cycle s lines) where
-  pub put-length : length lines ≡ 32
+module _ {before value : List ℕ} {cycle s : ℕ} {words : List ℕ} (inv : PutAt before value cycle s words) where
+  pub put-length : length words ≡ 128
   unfolding cyclePut
-  put-length = rw (inv .goes) (length-tabulate 32 0 (λ i. pick (eqb (getD (take s value) i 0) 49) (marked (lineAt before i) cycle) (lineAt before i)))
+  put-length = rw (inv .goes) (length-tabulate 128 0 (λ i. getD before i 0 + added (take s value) cycle i))
 
-  pub put-end : length value ≤ s → lines ≡ cyclePut before value cycle
+  pub put-end : length value ≤ s → words ≡ cyclePut before value cycle
   put-end h = inv .goes ∙ ap (λ v. cyclePut before v cycle) (take-all s value h)
 
-  module _ (room : length value ≤ 32) (h : s < length value) where
-    -- what line i is by the first digits
-    by-digits : List ℕ → ℕ → Line
-    by-digits v i = pick (eqb (getD v i 0) 49) (marked (lineAt before i) cycle) (lineAt before i)
+  module _ (room : RoomAt before value cycle) (h : s < length value) where
+    -- what word i is by the first digits
+    by-digits : List ℕ → ℕ → ℕ
+    by-digits v i = getD before i 0 + added v cycle i
 
     size : length (take s value) ≡ s
     size = length-take-le s value (inv .within)
@@ -60,59 +69,162 @@ module _ {before : List Line} {value : List ℕ} {cycle s : ℕ} {lines : List L
     other : (i : ℕ) → (i ≡ s → ⊥) → getD (take (s + 1) value) i 0 ≡ getD (take s value) i 0
     other i n = rw more (snoc-other (take s value) (getD value s 0) 0 i (λ e. n (e ∙ size)))
 
-    -- line s is still what it was
-    pub put-line : lineAt lines s ≡ lineAt before s
-    unfolding cyclePut by-digits
-    put-line = rw (inv .goes) (getD-tabulate 32 (by-digits (take s value)) s (record { words = [] }) (omega arith) ∙ rw none-yet)
+    -- the word that has the digit
+    put-place : cycle / 64 * 32 + s < 128
+    put-place = omega (arith, room .cycles, room .signals)
 
-    pub put-one : {line : Line} {after : List Line} → getD value s 0 ≡ 49 → line ≡ marked (lineAt lines s) cycle → after ≡ set lines s line → PutAt before value cycle (s + 1) after
-    unfolding cyclePut by-digits
-    put-one e d a =
-        let is : by-digits (take (s + 1) value) s ≡ marked (lineAt before s) cycle = rw (at-s, e) in
-        let t : set (tabulate 32 (by-digits (take s value))) s (by-digits (take (s + 1) value) s) ≡ tabulate 32 (by-digits (take (s + 1) value)) =
-        set-tabulate 32 (by-digits (take s value)) (by-digits (take (s + 1) value)) s (record { words = [] }) (omega arith) (λ i n. rw (other i n)) in
-        record { within = omega arith; goes = a ∙ rw (d, put-line, inv .goes, ← is) t }
+    block : (cycle / 64 * 32 + s) / 32 ≡ cycle / 64
+    block = omega (arith, room .signals)
 
-    pub put-none : {after : List Line} → (getD value s 0 ≡ 49 → ⊥) → after ≡ lines → PutAt before value cycle (s + 1) after
+    signal : (cycle / 64 * 32 + s) % 32 ≡ s
+    signal = omega (arith, room .signals)
+
+    here : (v : List ℕ) → by-digits v (cycle / 64 * 32 + s) ≡ getD before (cycle / 64 * 32 + s) 0 + pick (eqb (getD v s 0) 49) (2 ^ (cycle % 64)) 0
+    unfolding by-digits
+    here v = rw (block, signal, eq-eqb (cycle / 64) (cycle / 64) refl)
+
+    elsewhere : (j : ℕ) → (j ≡ cycle / 64 * 32 + s → ⊥) → by-digits (take (s + 1) value) j ≡ by-digits (take s value) j
+    unfolding by-digits
+    elsewhere j n = by (ℕ-discrete (j / 32) (cycle / 64))
+      where
+        by : Dec (j / 32 ≡ cycle / 64) → getD before j 0 + added (take (s + 1) value) cycle j ≡ getD before j 0 + added (take s value) cycle j
+        by (yes e) = rw (other (j % 32) (λ q. n (omega arith)))
+        by (no e) = rw (ne-eqb (j / 32) (cycle / 64) e)
+
+    -- it is still what it was
+    put-word : getD words (cycle / 64 * 32 + s) 0 ≡ getD before (cycle / 64 * 32 + s) 0
     unfolding cyclePut by-digits
-    put-none n a =
+    put-word = rw (inv .goes) (getD-tabulate 128 (by-digits (take s value)) (cycle / 64 * 32 + s) 0 put-place ∙ (here (take s value) ∙ rw (none-yet, add-zero)))
+
+    pub put-room : {bit add : ℕ} → bit ≡ 2 ^ (cycle % 64) → add ≡ pick (eqb (getD value s 0) 49) bit 0 → getD words (cycle / 64 * 32 + s) 0 + add < 2 ^ 64
+    put-room {bit} {add} b e = by (eqb (getD value s 0) 49) e
+      where
+        by : (t : Bool) → add ≡ pick t bit 0 → getD words (cycle / 64 * 32 + s) 0 + add < 2 ^ 64
+        by true q = omega (arith, put-word, room .unset (cycle / 64 * 32 + s) put-place block)
+        by false q = omega (arith, put-word, room .unset (cycle / 64 * 32 + s) put-place block)
+
+    pub put-more : {bit add : ℕ} {after : List ℕ} → bit ≡ 2 ^ (cycle % 64) → add ≡ pick (eqb (getD value s 0) 49) bit 0
+        → after ≡ set words (cycle / 64 * 32 + s) (getD words (cycle / 64 * 32 + s) 0 + add) → PutAt before value cycle (s + 1) after
+    unfolding cyclePut by-digits
+    put-more {bit} {add} b e a =
+        let is : by-digits (take (s + 1) value) (cycle / 64 * 32 + s) ≡ getD words (cycle / 64 * 32 + s) 0 + add = here (take (s + 1) value) ∙ rw (at-s, put-word, e, b) in
+        let t : set (tabulate 128 (by-digits (take s value))) (cycle / 64 * 32 + s) (by-digits (take (s + 1) value) (cycle / 64 * 32 + s)) ≡ tabulate 128 (by-digits (take (s + 1) value)) =
+        set-tabulate 128 (by-digits (take s value)) (by-digits (take (s + 1) value)) (cycle / 64 * 32 + s) 0 put-place elsewhere in
         record {
           within = omega arith;
-          goes = a ∙ inv .goes ∙ tabulate-ext 32 (by-digits (take s value)) (by-digits (take (s + 1) value)) (λ i l. same i (ℕ-discrete i s));
+          goes = a ∙ (ap₂ (λ w x. set w (cycle / 64 * 32 + s) x) (inv .goes) (sym is) ∙ t);
         }
-      where
-        same : (i : ℕ) → Dec (i ≡ s) → by-digits (take s value) i ≡ by-digits (take (s + 1) value) i
-        same i (yes q) = rw (q, none-yet, at-s, ne-eqb (getD value s 0) 49 n)
-        same i (no m) = rw (other i m)
 
--- ---- the cycles, one after the other
+-- ---- the cycles, one after the other: word 32 * b + s has the cycles from 64 * b on of signal s
+abbrev pub wordsOf : List (List Bool) → List ℕ
+wordsOf cycles = tabulate 128 (λ i. wordFrom 64 (i / 32 * 64) (λ c. digit cycles c (i % 32)))
 
--- the lines that the code begins with are those of no cycle
-pub lines-none : linesOf [] ≡ replicate 32 (record { words = replicate 4 0 })
-lines-none = tabulate-ext 32 (λ s. lineOf (λ c. false)) (λ s. record { words = replicate 4 0 }) (λ s h. line-none) ∙ sym (replicate-tabulate 32 0 (record { words = replicate 4 0 }))
+word-none : (n k : ℕ) → wordFrom n k (λ c. false) ≡ 0
+unfolding wordFrom
+word-none zero k = refl
+word-none (suc n) k = rw (word-none n (suc k))
+
+-- the words that the code begins with are those of no cycle
+pub words-none : wordsOf [] ≡ replicate 128 0
+words-none = tabulate-ext 128 (λ i. wordFrom 64 (i / 32 * 64) (λ c. false)) (λ i. 0) (λ i h. word-none 64 (i / 32 * 64)) ∙ sym (replicate-tabulate 128 0 0)
+
+-- the word of a cycle gets its bit
+word-digit : (f : ℕ → Bool) (c : ℕ) (h : c < 256) (unset : f c ≡ false) (g : ℕ → Bool) → ((i : ℕ) → (i ≡ c → ⊥) → g i ≡ f i)
+    → wordFrom 64 (c / 64 * 64) f + pick (g c) (2 ^ (c % 64)) 0 ≡ wordFrom 64 (c / 64 * 64) g
+unfolding marked lineOf
+word-digit f c h unset g other = by (g c) (ap (λ (l : Line). getD (l .words) (c / 64) 0) (line-digit f c h unset g other) ∙ word-of g c h)
+  where
+    long : c / 64 < length (lineOf f .words)
+    long = rw length-tabulate (omega arith)
+
+    by : (t : Bool) → getD (pick t (marked (lineOf f) c) (lineOf f) .words) (c / 64) 0 ≡ wordFrom 64 (c / 64 * 64) g
+        → wordFrom 64 (c / 64 * 64) f + pick t (2 ^ (c % 64)) 0 ≡ wordFrom 64 (c / 64 * 64) g
+    by true e = rw (← word-of f c h) (sym (getD-set-same (lineOf f .words) (c / 64) (getD (lineOf f .words) (c / 64) 0 + 2 ^ (c % 64)) 0 long) ∙ e)
+    by false e = rw add-zero (sym (word-of f c h) ∙ e)
 
 module _ (done : List (List Bool)) (h : length done < 256) where
-  at : (s : ℕ) → s < 32 → lineAt (linesOf done) s ≡ lineOf (λ c. digit done c s)
-  at s l = getD-tabulate 32 (λ s. lineOf (λ c. digit done c s)) s (record { words = [] }) l
+  at : (i : ℕ) → i < 128 → getD (wordsOf done) i 0 ≡ wordFrom 64 (i / 32 * 64) (λ c. digit done c (i % 32))
+  at i l = getD-tabulate 128 (λ i. wordFrom 64 (i / 32 * 64) (λ c. digit done c (i % 32))) i 0 l
 
   unset : (s : ℕ) → digit done (length done) s ≡ false
   unset s = rw (List·getD-eq-default done [] (le-refl (length done)))
 
-  pub lines-room : (value : List ℕ) → length value ≤ 32 → RoomAt (linesOf done) value (length done)
-  lines-room value l =
+  pub words-room : (value : List ℕ) → length value ≤ 32 → RoomAt (wordsOf done) value (length done)
+  words-room value l =
       record {
+        places = length-tabulate 128 0 _;
         signals = l;
         cycles = h;
-        unset = λ s m. rw (at s m) (bit-room (λ c. digit done c s) (length done) h (unset s));
+        unset = λ i m e. rw (at i m, e, ← word-of (λ c. digit done c (i % 32)) (length done) h) (bit-room (λ c. digit done c (i % 32)) (length done) h (unset (i % 32)));
       }
 
-  pub lines-more : (value : List ℕ) → cyclePut (linesOf done) value (length done) ≡ linesOf (done ++ (digitsIn value ∷ []))
+  pub words-more : (value : List ℕ) → cyclePut (wordsOf done) value (length done) ≡ wordsOf (done ++ (digitsIn value ∷ []))
   unfolding cyclePut
-  lines-more value = tabulate-ext 32 _ _ (λ s l. rw (at s l) (one s))
+  words-more value = tabulate-ext 128 _ _ (λ i l. rw (at i l) (one i (ℕ-discrete (i / 32) (length done / 64))))
     where
       is : (s : ℕ) → digit (done ++ (digitsIn value ∷ [])) (length done) s ≡ eqb (getD value s 0) 49
       is s = rw (getD-append-seam done (digitsIn value) [] []) (List·getD-map (λ d. eqb d 49) value s 0)
 
-      one : (s : ℕ) → pick (eqb (getD value s 0) 49) (marked (lineOf (λ c. digit done c s)) (length done)) (lineOf (λ c. digit done c s))
-          ≡ lineOf (λ c. digit (done ++ (digitsIn value ∷ [])) c s)
-      one s = rw (← is s) (line-digit (λ c. digit done c s) (length done) h (unset s) (λ c. digit (done ++ (digitsIn value ∷ [])) c s) (λ i n. rw (snoc-other done (digitsIn value) [] i n)))
+      old : (s i : ℕ) → (i ≡ length done → ⊥) → digit (done ++ (digitsIn value ∷ [])) i s ≡ digit done i s
+      old s i n = rw (snoc-other done (digitsIn value) [] i n)
+
+      one : (i : ℕ) → Dec (i / 32 ≡ length done / 64)
+          → wordFrom 64 (i / 32 * 64) (λ c. digit done c (i % 32)) + added value (length done) i ≡ wordFrom 64 (i / 32 * 64) (λ c. digit (done ++ (digitsIn value ∷ [])) c (i % 32))
+      one i (yes e) =
+          rw (e, eq-eqb (length done / 64) (length done / 64) refl, ← is (i % 32))
+          (word-digit (λ c. digit done c (i % 32)) (length done) h (unset (i % 32)) (λ c. digit (done ++ (digitsIn value ∷ [])) c (i % 32)) (old (i % 32)))
+      one i (no n) =
+          rw (ne-eqb (i / 32) (length done / 64) n, add-zero)
+          (word-ext 64 (i / 32 * 64) (λ c. digit done c (i % 32)) (λ c. digit (done ++ (digitsIn value ∷ [])) c (i % 32)) (λ j a b. sym (old (i % 32) j (λ q. n (omega arith)))))
+
+-- ---- the lines
+four : (f : ℕ → ℕ) → f 0 ∷ f 1 ∷ f 2 ∷ f 3 ∷ [] ≡ tabulate 4 f
+unfolding tabulateFrom
+four f = refl
+
+pub lines-of-words : (done : List (List Bool)) → linesFrom (wordsOf done) ≡ linesOf done
+unfolding linesFrom lineOf
+lines-of-words done = tabulate-ext 32 (lineFrom (wordsOf done)) (λ s. lineOf (λ c. digit done c s)) one
+  where
+    word : (s b p : ℕ) → p < 128 → p / 32 ≡ b → p % 32 ≡ s → getD (wordsOf done) p 0 ≡ wordFrom 64 (b * 64) (λ c. digit done c s)
+    word s b p h x y = getD-tabulate 128 (λ i. wordFrom 64 (i / 32 * 64) (λ c. digit done c (i % 32))) p 0 h ∙ ap₂ (λ k t. wordFrom 64 (k * 64) (λ c. digit done c t)) x y
+
+    one : (s : ℕ) → s < 32 → lineFrom (wordsOf done) s ≡ lineOf (λ c. digit done c s)
+    one s h =
+        let a = word s 0 s (omega arith) (omega arith) (omega arith) in
+        let b = word s 1 (32 + s) (omega arith) (omega arith) (omega arith) in
+        let c = word s 2 (64 + s) (omega arith) (omega arith) (omega arith) in
+        let d = word s 3 (96 + s) (omega arith) (omega arith) (omega arith) in
+        ap (λ ws. record { words = ws }) (cc (four (λ i. wordFrom 64 (i * 64) (λ c. digit done c s))))
+
+-- those of no cycle, as a refusal has them
+pub lines-none : linesOf [] ≡ replicate 32 (record { words = replicate 4 0 })
+lines-none = tabulate-ext 32 (λ s. lineOf (λ c. false)) (λ s. record { words = replicate 4 0 }) (λ s h. line-none) ∙ sym (replicate-tabulate 32 0 (record { words = replicate 4 0 }))
+
+-- the loop that makes them: the first s are made
+pub record LinesAt (words : List ℕ) (s : ℕ) (lines : List Line) : Type 0 where
+  pub within : s ≤ 32
+  pub long : length lines ≡ 32
+  pub made : (i : ℕ) → i < s → getD lines i (record { words = [] }) ≡ lineFrom words i
+
+pub lines-start : {words : List ℕ} → LinesAt words 0 (replicate 32 (record { words = replicate 4 0 }))
+lines-start = record { within = omega arith; long = length-replicate {A = Line} 32 (record { words = replicate 4 0 }); made = λ i h. absurd (omega arith) }
+
+module _ {words : List ℕ} {s : ℕ} {lines : List Line} (inv : LinesAt words s lines) where
+  pub lines-more : {after : List Line} → s < 32 → after ≡ set lines s (lineFrom words s) → LinesAt words (s + 1) after
+  lines-more {after} h a =
+      record {
+        within = omega arith;
+        long = ap length a ∙ (length-set lines s (lineFrom words s) ∙ inv .long);
+        made = λ i l. rw a (at i l (ℕ-discrete i s));
+      }
+    where
+      at : (i : ℕ) → i < s + 1 → Dec (i ≡ s) → getD (set lines s (lineFrom words s)) i (record { words = [] }) ≡ lineFrom words i
+      at i l (yes e) = rw e (getD-set-same lines s (lineFrom words s) (record { words = [] }) (omega (arith, inv .long)))
+      at i l (no n) = getD-set-other lines s i (lineFrom words s) (record { words = [] }) n ∙ inv .made i (omega arith)
+
+  pub lines-end : 32 ≤ s → lines ≡ linesFrom words
+  unfolding linesFrom
+  lines-end h =
+      ext-getD (record { words = [] }) lines (tabulate 32 (lineFrom words)) (inv .long ∙ sym (length-tabulate 32 0 (lineFrom words)))
+      (λ i l. inv .made i (omega (arith, inv .long)) ∙ sym (getD-tabulate 32 (lineFrom words) i (record { words = [] }) (omega (arith, inv .long))))

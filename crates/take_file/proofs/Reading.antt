@@ -20,27 +20,27 @@ use Rattle.text.specs.declared.digits.Digits.{Digits}
 use Rattle.text.specs.declared.digits.Digits.the-variants.{At, Wrong}
 use Rattle.text.proofs.DigitLines.{part-length, digits-within, digits-good, digits-bad}
 use Rattle.text.proofs.Bodies.{BodyAt, body-starts, body-refused, body-more, body-end, body-surplus}
-use Rattle.take_file.specs.Cycle.{RoomAt, cyclePut}
-use Rattle.take_file.specs.Take.{linesOf, traceOf, takeAnswer}
+use Rattle.take_file.specs.Cycle.{RoomAt, cyclePut, linesFrom}
+use Rattle.take_file.specs.Take.{traceOf, takeAnswer}
 use Rattle.take_file.specs.declared.take.TakeAnswer.{TakeAnswer}
-use Rattle.take_file.proofs.Cycles.{lines-none, lines-room, lines-more}
+use Rattle.take_file.proofs.Cycles.{wordsOf, words-none, words-room, words-more, lines-of-words}
 
--- the reading goes on at cycle c, and the lines have the cycles before
-pub record CyclesAt (signals cycles : ℕ) (body : List ℕ) (c : ℕ) (lines : List Line) (rest : List ℕ) : Type 0 where
+-- the reading goes on at cycle c, and the words have the cycles before
+pub record CyclesAt (signals cycles : ℕ) (body : List ℕ) (c : ℕ) (words : List ℕ) (rest : List ℕ) : Type 0 where
   pub done : List (List Bool)
   pub at : BodyAt 99 (λ c. digitsForm signals) cycles 0 5 body c done rest
-  pub same : lines ≡ linesOf done
+  pub same : words ≡ wordsOf done
   pub short : length rest ≤ length body
 
-pub cycles-start : {signals cycles : ℕ} {body : List ℕ} → CyclesAt signals cycles body 0 (replicate 32 (record { words = replicate 4 0 })) body
+pub cycles-start : {signals cycles : ℕ} {body : List ℕ} → CyclesAt signals cycles body 0 (replicate 128 0) body
 cycles-start {signals} {cycles} {body} =
-    record { done = []; at = body-starts 99 (λ c. digitsForm signals) cycles 0 5 body; same = sym lines-none; short = omega arith }
+    record { done = []; at = body-starts 99 (λ c. digitsForm signals) cycles 0 5 body; same = sym words-none; short = omega arith }
 
 -- the answer that the cycles give
 abbrev Answer : ℕ → ℕ → Ending → List ℕ → TakeAnswer
 Answer signals cycles ending body = takeAnswer (mapResult (traceOf signals cycles ending) (bodyLines 99 (λ c. digitsForm signals) cycles 0 5 body))
 
-module _ {signals cycles : ℕ} {body : List ℕ} {c : ℕ} {lines : List Line} {rest : List ℕ} (inv : CyclesAt signals cycles body c lines rest) where
+module _ {signals cycles : ℕ} {body : List ℕ} {c : ℕ} {words rest : List ℕ} (inv : CyclesAt signals cycles body c words rest) where
   module _ (h : c < cycles) {r : Digits} (e : digitsAt rest r ≡ keyedLine (isNumbered 99 c) (digitsForm signals) rest) where
     pub cycles-wrong : (ending : Ending) → r ≡ Wrong → takeAnswer (refused WrongForm (c + 5)) ≡ Answer signals cycles ending body
     cycles-wrong ending d =
@@ -49,14 +49,14 @@ module _ {signals cycles : ℕ} {body : List ℕ} {c : ℕ} {lines : List Line} 
         rw (body-refused (inv .at) h g)
 
     module _ (w : DigitsWithin rest signals r) {from end : ℕ} (d : r ≡ At from end) (s : signals ≤ 32) (l : cycles ≤ 256) where
-      pub cycles-room : RoomAt lines (part from end rest) c
+      pub cycles-room : RoomAt words (part from end rest) c
       cycles-room =
           let p = digits-within rest signals w d in
           let n : length (part from end rest) ≤ 32 = rw (part-length from end rest (omega (arith, p .1))) (omega (arith, p .0)) in
           let q : length (inv .done) < 256 = omega (arith, inv .at .count) in
-          rw (inv .same, ← inv .at .count) (lines-room (inv .done) q (part from end rest) n)
+          rw (inv .same, ← inv .at .count) (words-room (inv .done) q (part from end rest) n)
 
-      pub cycles-more : CyclesAt signals cycles body (c + 1) (cyclePut lines (part from end rest) c) (drop (end + 1) rest)
+      pub cycles-more : CyclesAt signals cycles body (c + 1) (cyclePut words (part from end rest) c) (drop (end + 1) rest)
       cycles-more =
           let k : c + 0 ≡ c = add-zero c in
           let g : keyedLine (isNumbered 99 (c + 0)) (digitsForm signals) rest ≡ good (record { value = digitsIn (part from end rest); next = end + 1 }) =
@@ -65,13 +65,13 @@ module _ {signals cycles : ℕ} {body : List ℕ} {c : ℕ} {lines : List Line} 
           record {
             done = inv .done ++ (digitsIn (part from end rest) ∷ []);
             at = body-more (inv .at) h g;
-            same = rw (inv .same, ← inv .at .count) (lines-more (inv .done) q (part from end rest));
+            same = rw (inv .same, ← inv .at .count) (words-more (inv .done) q (part from end rest));
             short = rw length-drop (omega (arith, inv .short));
           }
 
   module _ (h : cycles ≤ c) where
-    pub cycles-end : (ending : Ending) → length rest ≡ 0 → takeAnswer (accepted (record { signals = signals; cycles = cycles; ending = ending; lines = lines })) ≡ Answer signals cycles ending body
-    cycles-end ending e = rw (body-end (inv .at) h e, inv .same)
+    pub cycles-end : (ending : Ending) {lines : List Line} → lines ≡ linesFrom words → length rest ≡ 0 → takeAnswer (accepted (record { signals = signals; cycles = cycles; ending = ending; lines = lines })) ≡ Answer signals cycles ending body
+    cycles-end ending l e = rw (body-end (inv .at) h e, l, inv .same, lines-of-words (inv .done))
 
     pub cycles-surplus : (ending : Ending) → (length rest ≡ 0 → ⊥) → takeAnswer (refused WrongForm (c + 5)) ≡ Answer signals cycles ending body
     cycles-surplus ending n = rw (body-surplus (inv .at) h n)

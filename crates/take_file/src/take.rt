@@ -48,21 +48,20 @@ fn read_cycles(body: &[u8], signals: usize, cycles: usize, ending: Ending) -> Ta
     ensures { λ r. ⌜ r ≡ takeAnswer (mapResult (traceOf signals cycles ending) (bodyLines 99 (λ c. digitsForm signals) cycles 0 5 (now (body .entry)))) ⌝ }
 {
     let mut rest = body;
-    let mut lines = [Line { words: [0; 4] }; 32];
+    let mut words = [0; 128];
     let mut c = 0;
     while c < cycles {
         let Digits::At(from, end) = text::digits::digits_line(rest, b'c', c, signals) else {
             return refuse(Reason::WrongForm, c + 5);
         };
-        // By a local of its own: the borrow checker does not cover a call whose result goes to an array that it was given.
-        let more = crate::cycle::put_cycle(lines, &rest[from..end], c);
-        lines = more;
+        crate::cycle::put_cycle(&mut words, &rest[from..end], c);
         rest = &rest[end + 1..];
         c += 1;
     }
     if rest.len() != 0 {
         return refuse(Reason::WrongForm, c + 5);
     }
+    let lines = crate::cycle::lines_from(words);
     TakeAnswer {
         outcome: Outcome::Accepted,
         trace: Trace {

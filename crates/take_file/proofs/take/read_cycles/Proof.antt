@@ -1,18 +1,18 @@
 use Prim.Native.Nat.{_-_}
 use mathlib.Core.Path.{_∙_}
 use native.Mathlib.Omega.{arith}
+use borrow.Author.Needs.{needs}
 use Rattle.text.proofs.Searching.{rest-part}
 use Rattle.text.proofs.DigitLines.{digits-within}
 use Rattle.take_file.proofs.Reading.{CyclesAt, cycles-start, cycles-wrong, cycles-room, cycles-more, cycles-end, cycles-surplus}
-use borrow.Author.Needs.{needs}
 use Rattle.take_file.proofs.take.read_cycles.Statement.{statement}
 use Rattle.take_file.proofs.take.read_cycles.Tie as tie
 
 abbrev Inv-loop : tie.InvT-loop
-Inv-loop body signals cycles ending rest₀ lines₀ c₀ rest lines c = CyclesAt signals cycles body c lines rest
+Inv-loop body signals cycles ending rest₀ words₀ c₀ rest words c = CyclesAt signals cycles body c words rest
 
 abbrev μ-loop : tie.MeasureT-loop
-μ-loop body signals cycles ending rest₀ lines₀ c₀ rest lines c = cycles - c
+μ-loop body signals cycles ending rest₀ words₀ c₀ rest words c = cycles - c
 
 loop-holds : tie.Need-loop-holds Inv-loop μ-loop
 loop-holds c = cycles-start
@@ -21,34 +21,34 @@ returns : tie.Need-returns Inv-loop μ-loop
 returns c = c .refuse .ensures ∙ cycles-wrong (c .before .before .before .before .before .loop .inv) (search needs) (c .before .before .before .digits-line .ensures .0) _ (c .before .enum-told .given .1)
 
 sub-put-cycle : tie.Need-sub-put-cycle Inv-loop μ-loop
-sub-put-cycle c = omega (arith, digits-within _ _ (c .before .before .before .digits-line .ensures .1) (c .before .from .given .1))
+sub-put-cycle c = omega (arith, digits-within _ _ (c .before .before .before .before .digits-line .ensures .1) (c .before .before .from .given .1))
 
 part-put-cycle-start : tie.Need-part-put-cycle-start Inv-loop μ-loop
-part-put-cycle-start c = omega (arith, digits-within _ _ (c .before .before .before .digits-line .ensures .1) (c .before .from .given .1))
+part-put-cycle-start c = omega (arith, digits-within _ _ (c .before .before .before .before .digits-line .ensures .1) (c .before .before .from .given .1))
 
 part-put-cycle-end : tie.Need-part-put-cycle-end Inv-loop μ-loop
-part-put-cycle-end c = omega (arith, digits-within _ _ (c .before .before .before .digits-line .ensures .1) (c .before .from .given .1))
+part-put-cycle-end c = omega (arith, digits-within _ _ (c .before .before .before .before .digits-line .ensures .1) (c .before .before .from .given .1))
 
 put-cycle-requires : tie.Need-put-cycle-requires Inv-loop μ-loop
-put-cycle-requires c κs = cycles-room (c .before .before .before .before .before .before .loop .inv) (search needs) (c .before .before .before .before .digits-line .ensures .0) (c .before .before .before .before .digits-line .ensures .1) (c .before .before .from .given .1) (c .before .before .before .before .before .before .before .before .pre .0) (c .before .before .before .before .before .before .before .before .pre .1)
+put-cycle-requires c κs = cycles-room (c .before .before .before .before .before .before .before .loop .inv) (search needs) (c .before .before .before .before .before .digits-line .ensures .0) (c .before .before .before .before .before .digits-line .ensures .1) (c .before .before .before .from .given .1) (c .before .before .before .before .before .before .before .before .before .pre .0) (c .before .before .before .before .before .before .before .before .before .pre .1)
 
 add-rest : tie.Need-add-rest Inv-loop μ-loop
-add-rest c = omega (arith, digits-within _ _ (c .before .before .before .before .before .digits-line .ensures .1) (c .before .before .before .from .given .1))
+add-rest c = omega (arith, digits-within _ _ (c .before .before .before .before .before .before .digits-line .ensures .1) (c .before .before .before .before .from .given .1))
 
 sub-rest : tie.Need-sub-rest Inv-loop μ-loop
-sub-rest c = omega (arith, digits-within _ _ (c .before .before .before .before .before .digits-line .ensures .1) (c .before .before .before .from .given .1))
+sub-rest c = omega (arith, digits-within _ _ (c .before .before .before .before .before .before .digits-line .ensures .1) (c .before .before .before .before .from .given .1))
 
 part-rest-start : tie.Need-part-rest-start Inv-loop μ-loop
-part-rest-start c = omega (arith, digits-within _ _ (c .before .before .before .before .before .digits-line .ensures .1) (c .before .before .before .from .given .1))
+part-rest-start c = omega (arith, digits-within _ _ (c .before .before .before .before .before .before .digits-line .ensures .1) (c .before .before .before .before .from .given .1))
 
 loop-again : tie.Need-loop-again Inv-loop μ-loop
-loop-again c = rw (c .before .put-cycle .ensures, rest-part) (cycles-more (c .before .before .before .before .before .before .before .before .loop .inv) (search needs) (c .before .before .before .before .before .before .digits-line .ensures .0) (c .before .before .before .before .before .before .digits-line .ensures .1) (c .before .before .before .before .from .given .1) (c .before .before .before .before .before .before .before .before .before .before .pre .0) (c .before .before .before .before .before .before .before .before .before .before .pre .1))
+loop-again c = rw (c .before .put-cycle .ensures, rest-part) (cycles-more (c .before .before .before .before .before .before .before .before .before .loop .inv) (search needs) (c .before .before .before .before .before .before .before .digits-line .ensures .0) (c .before .before .before .before .before .before .before .digits-line .ensures .1) (c .before .before .before .before .before .from .given .1) (c .before .before .before .before .before .before .before .before .before .before .before .pre .0) (c .before .before .before .before .before .before .before .before .before .before .before .pre .1))
 
 returns-2 : tie.Need-returns-2 Inv-loop μ-loop
 returns-2 c = c .refuse2 .ensures ∙ cycles-surplus (c .before .before .before .loop .inv) (search needs) _ (λ z. omega arith)
 
 returns-3 : tie.Need-returns-3 Inv-loop μ-loop
-returns-3 c = cycles-end (c .before .before .loop .inv) (search needs) _ (search needs)
+returns-3 c = cycles-end (c .before .before .before .loop .inv) (search needs) _ (c .lines-from .ensures) (search needs)
 
 pub read-cycles-spec : {M : Type 1} → statement M
 read-cycles-spec =
@@ -77,6 +77,7 @@ read-cycles-spec =
     (λ c. search needs)
     (λ c κs. search needs)
     returns-2
+    (λ c κs. search needs)
     (λ c. search needs)
     (λ c. search needs)
     returns-3)
