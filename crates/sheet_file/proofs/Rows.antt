@@ -1,73 +1,94 @@
--- The lines of the rows: digit by digit, and row by row. Assumes nothing.
-use mathlib.Core.Path.{_≡_, sym, ap, _∙_}
+-- The lines of the rows: word by word, each digit by digit. Assumes nothing.
+use mathlib.Core.Path.{_≡_, refl, sym, _∙_}
 use mathlib.Core.Bool.{Bool, false}
-use mathlib.Core.List.{List, [], _∷_, _++_, map-append}
-use Prim.Native.Nat.{ℕ, _+_, _/_, _%_, _^_, _≤_, _<_}
-use native.Mathlib.Numerals.{add-one}
+use mathlib.Core.List.{List, [], _∷_}
+use Prim.Native.Nat.{ℕ, zero, suc, _+_, _*_, _-_, _^_, _≤_, _<_}
+use native.Mathlib.Nat.{pow-suc, zero-add}
 use native.Mathlib.Omega.{arith}
 use lib.Dec.{eqb}
-use lib.ListN.{length, getD, take, replicate, length-map, List·getD-eq-default}
-use lib.Seq.{take-suc, take-all, length-take-le, getD-append-seam}
-use borrow.Author.Tests.{eq-eqb, ne-eqb}
+use lib.Pow.{pow-mono}
+use lib.ListN.{length, getD, replicate, length-map, List·getD-eq-default, List·getD-map}
 use Rattle.tables.specs.Choice.{pick}
-use Rattle.tables.specs.Place.{placed}
-use Rattle.tables.specs.Bit.{lineOf, marked}
-use Rattle.tables.specs.declared.trace.Line.{Line}
-use Rattle.tables.proofs.Places.{tabulate-ext, replicate-tabulate, snoc-other}
-use Rattle.tables.proofs.Marks.{line-none, bit-room, line-digit}
+use Rattle.tables.specs.Place.{tabulateFrom, placed}
+use Rattle.tables.specs.Bit.{wordFrom, lineOf}
+use Rattle.tables.proofs.Places.{tabulate-ext, replicate-tabulate}
+use Rattle.tables.proofs.Bits.{digit}
+use Rattle.tables.proofs.Marks.{line-none}
 use Rattle.text.specs.Digits.{digitsIn}
 use Rattle.sheet_file.specs.Sheet.{rowLine}
 
--- ---- the digits of one row, one after the other: the line has the first c
-pub record RowAt (value : List ℕ) (c : ℕ) (line : Line) : Type 0 where
-  pub within : c ≤ length value
-  pub goes : line ≡ rowLine (digitsIn (take c value))
+-- ---- a word, from its last digit down: it has all but the first `left`
+pub record WordAt (f : ℕ → Bool) (from count left word : ℕ) : Type 0 where
+  pub within : left ≤ count
+  pub goes : word ≡ wordFrom (count - left) (from + left) f
 
-pub row-start : {value : List ℕ} → RowAt value 0 (record { words = replicate 4 0 })
-row-start = record { within = omega arith; goes = sym line-none }
+word-below : (n k : ℕ) (f : ℕ → Bool) → wordFrom n k f < 2 ^ n
+unfolding wordFrom
+word-below zero k f = omega arith
+word-below (suc n) k f = rw pow-suc (omega (arith, word-below n (suc k) f, digit (f k)))
 
-module _ {value : List ℕ} {c : ℕ} {line : Line} (inv : RowAt value c line) where
-  pub row-end : length value ≤ c → line ≡ rowLine (digitsIn value)
-  row-end h = inv .goes ∙ ap (λ v. rowLine (digitsIn v)) (take-all c value h)
+pub word-start : {f : ℕ → Bool} {from count : ℕ} → WordAt f from count count 0
+unfolding wordFrom
+word-start {f} {from} {count} = let z : count - count ≡ 0 = omega arith in record { within = omega arith; goes = rw z }
 
-  module _ (room : length value ≤ 256) (h : c < length value) where
-    digits : ℕ → List Bool
-    digits n = digitsIn (take n value)
+module _ {f : ℕ → Bool} {from count left word : ℕ} (inv : WordAt f from count left word) (h : 0 < left) where
+  pub word-room : count ≤ 64 → word * 2 + 1 < 2 ^ 64
+  word-room l =
+      let a : word < 2 ^ (count - left) = rw (inv .goes) (word-below (count - left) (from + left) f) in
+      let b : 2 ^ (count - left) ≤ 2 ^ 63 = pow-mono {j = 63} (omega (arith, inv .within)) in
+      omega arith
 
-    size : length (digits c) ≡ c
-    unfolding digits
-    size = length-map (take c value) (λ d. eqb d 49) ∙ length-take-le c value (inv .within)
+  word-more : {b : ℕ} → b ≡ pick (f (from + (left - 1))) 1 0 → WordAt f from count (left - 1) (word * 2 + b)
+  unfolding wordFrom
+  word-more {b} e =
+      let n : count - (left - 1) ≡ suc (count - left) = omega (arith, inv .within) in
+      let k : from + left ≡ suc (from + (left - 1)) = omega arith in
+      let w : word ≡ wordFrom (count - left) (suc (from + (left - 1))) f = rw k at (inv .goes) in
+      record { within = omega (arith, inv .within); goes = rw (n, ← w, ← e) (omega arith) }
 
-    more : digits (c + 1) ≡ digits c ++ (eqb (getD value c 0) 49 ∷ [])
-    unfolding digits
-    more = rw (add-one, take-suc value c 0 h) (map-append (λ d. eqb d 49) (take c value) (getD value c 0 ∷ []))
+pub word-end : {f : ℕ → Bool} {from count left word : ℕ} → WordAt f from count left word → left ≤ 0 → word ≡ wordFrom count from f
+word-end {from = from} {count = count} {left = left} inv h =
+    let z : left ≡ 0 = omega arith in
+    let n : count - 0 ≡ count = omega arith in
+    let k : from + 0 ≡ from = omega arith in
+    rw (z, n, k) at (inv .goes)
 
-    unset : getD (digits c) c false ≡ false
-    unset = List·getD-eq-default (digits c) false (omega (arith, size))
+-- the next digit of a row, as the code reads it
+pub digit-more : (value : List ℕ) {from count left word b : ℕ} → WordAt (λ c. getD (digitsIn value) c false) from count left word → 0 < left
+    → b ≡ pick (eqb (getD value (from + (left - 1)) 0) 49) 1 0 → WordAt (λ c. getD (digitsIn value) c false) from count (left - 1) (word * 2 + b)
+digit-more value {from} {count} {left} inv h e = word-more inv h (e ∙ rw (List·getD-map (λ d. eqb d 49) value (from + (left - 1)) 0))
 
-    is : getD (digits (c + 1)) c false ≡ eqb (getD value c 0) 49
-    is =
-        let e : getD (digits c ++ (eqb (getD value c 0) 49 ∷ [])) (length (digits c)) false ≡ eqb (getD value c 0) 49 = getD-append-seam (digits c) (eqb (getD value c 0) 49) [] false in
-        rw more (rw size at e)
+-- ---- a word that is not full: behind the last digit there is none
+word-none : (n k : ℕ) (f : ℕ → Bool) → ((i : ℕ) → k ≤ i → f i ≡ false) → wordFrom n k f ≡ 0
+unfolding wordFrom
+word-none zero k f e = refl
+word-none (suc n) k f e = rw (e k (omega arith), word-none n (suc k) f (λ i h. e i (omega arith)))
 
-    other : (i : ℕ) → (i ≡ c → ⊥) → getD (digits (c + 1)) i false ≡ getD (digits c) i false
-    other i n = rw more (snoc-other (digits c) (eqb (getD value c 0) 49) false i (λ e. n (e ∙ size)))
+word-short : (n m k : ℕ) (f : ℕ → Bool) → ((i : ℕ) → k + n ≤ i → f i ≡ false) → wordFrom n k f ≡ wordFrom (n + m) k f
+unfolding wordFrom
+word-short zero m k f e = sym (rw zero-add (word-none m k f (λ i h. e i (omega arith))))
+word-short (suc n) m k f e =
+    let s : suc n + m ≡ suc (n + m) = omega arith in
+    rw (s, word-short n m (suc k) f (λ i h. e i (omega arith)))
 
-    pub row-room : getD (line .words) (c / 64) 0 + 2 ^ (c % 64) < 2 ^ 64
-    unfolding digits
-    row-room = rw (inv .goes) (bit-room (λ i. getD (digits c) i false) c (omega arith) unset)
+module _ (value : List ℕ) where
+  behind : (i : ℕ) → length value ≤ i → getD (digitsIn value) i false ≡ false
+  behind i h = List·getD-eq-default (digitsIn value) false (rw length-map h)
 
-    next : pick (eqb (getD value c 0) 49) (marked line c) line ≡ rowLine (digits (c + 1))
-    unfolding digits
-    next = rw (inv .goes, ← is) (line-digit (λ i. getD (digits c) i false) c (omega arith) unset (λ i. getD (digits (c + 1)) i false) other)
+  pub row-empty : (k : ℕ) → length value ≤ k → 0 ≡ wordFrom 64 k (λ c. getD (digitsIn value) c false)
+  row-empty k h = sym (word-none 64 k (λ c. getD (digitsIn value) c false) (λ i l. behind i (omega arith)))
 
-    pub row-one : {after : Line} → getD value c 0 ≡ 49 → after ≡ marked line c → RowAt value (c + 1) after
-    unfolding digits
-    row-one e d = record { within = omega arith; goes = d ∙ rw (eq-eqb (getD value c 0) 49 e) at next }
+  pub row-part : (k : ℕ) → k ≤ length value → length value - k < 64
+      → wordFrom (length value - k) k (λ c. getD (digitsIn value) c false) ≡ wordFrom 64 k (λ c. getD (digitsIn value) c false)
+  row-part k h l =
+      let e : length value - k + (64 - (length value - k)) ≡ 64 = omega arith in
+      rw e at (word-short (length value - k) (64 - (length value - k)) k (λ c. getD (digitsIn value) c false) (λ i m. behind i (omega arith)))
 
-    pub row-none : {after : Line} → (getD value c 0 ≡ 49 → ⊥) → after ≡ line → RowAt value (c + 1) after
-    unfolding digits
-    row-none n d = record { within = omega arith; goes = d ∙ rw (ne-eqb (getD value c 0) 49 n) at next }
+-- the four words are the line
+pub row-line : (f : ℕ → Bool) {a b c d : ℕ} → a ≡ wordFrom 64 0 f → b ≡ wordFrom 64 64 f → c ≡ wordFrom 64 128 f → d ≡ wordFrom 64 192 f
+    → record { words = a ∷ b ∷ c ∷ d ∷ [] } ≡ lineOf f
+unfolding lineOf tabulateFrom
+row-line f p q r s = rw (p, q, r, s)
 
 -- ---- the lines that the code begins with are those of no row
 pub rows-none : placed 128 rowLine [] [] ≡ replicate 128 (record { words = replicate 4 0 })
