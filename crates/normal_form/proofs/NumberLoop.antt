@@ -2,7 +2,7 @@
 use mathlib.Core.Path.{_≡_, refl, sym, ap, _∙_}
 use mathlib.Core.Bool.{Bool, true, false}
 use mathlib.Core.List.{List, []}
-use Prim.Native.Nat.{ℕ, _+_, _-_, _/_, _≤_, _<_}
+use Prim.Native.Nat.{ℕ, suc, _+_, _-_, _/_, _≤_, _<_}
 use native.Mathlib.Numerals.{add-one}
 use native.Mathlib.Omega.{arith}
 use native.Mathlib.Decide.{ℕ-discrete}
@@ -15,13 +15,12 @@ use Rattle.tables.specs.declared.row.Row.{Row}
 use Rattle.tables.specs.declared.row.RowPlace.{RowPlace}
 use Rattle.rule_file.specs.Rule.{inPlace, unused}
 use Rattle.normal_form.specs.declared.sign.Sign.{Sign}
-use Rattle.normal_form.specs.declared.numbering.Numbering.{Numbering}
 use Rattle.normal_form.specs.Operand.{rowIn, isNot, Below}
 use Rattle.normal_form.specs.Sign.{turned, signed, slotOf, signOf}
-use Rattle.normal_form.specs.Numbering.{Listing, numberIn, renumbered, snoc, listRow, listing, numberingOf}
+use Rattle.normal_form.specs.Numbering.{Listing, numberIn, renumbered, snoc, skipped, shared, nextRow, listRow, listing, listedForm}
 use Rattle.normal_form.proofs.Signs.{place-small}
-use Rattle.normal_form.proofs.Operands.{alike-signed, alike-operand, same-mapped}
-use Rattle.normal_form.proofs.Listings.{length-snoc, rows-few, slot-free}
+use Rattle.normal_form.proofs.Operands.{not-operand, alike-signed, alike-operand, same-mapped}
+use Rattle.normal_form.proofs.Listings.{length-snoc, numbers-count, rows-few, slot-free}
 
 -- ---- numbers in their places
 
@@ -47,53 +46,64 @@ renumber-placed ns s r b =
     same-mapped (λ a. numberIn (numbersOf ns) a s) (λ a. numberIn ns a s) r
     (λ a o. let p = b a o .1 in let q = place-small s in number-at ns (slotOf a s) (omega arith))
 
--- ---- one slot, as the code's tables take it
-
-module _ {n : Numbering} (row : Row) (s : Sign) (slot : ℕ) (h : slot < 128) (l : Listing) (e : n ≡ numberingOf l) (q : length (l .numbers) ≡ slot) where
-  pub table-shared : {i : ℕ} → isNot row ≡ true → i ≡ slotOf (firstNumber row) (turned s) → i < 128
-      → record { rows = n .rows; numbers = set (n .numbers) slot (getD (n .numbers) i 0); places = n .places } ≡ numberingOf (listRow row s l)
-  unfolding numberingOf
-  table-shared {i} z p b =
-      rw (e, z) (ap (λ ns. record { rows = length (l .rows); numbers = ns; places = placed 128 inPlace unused (l .rows) })
-      (ap (set (numbersOf (l .numbers)) slot) (number-at (l .numbers) i b ∙ ap (λ i. getD (l .numbers) i 0) p) ∙ number-next (l .numbers) slot _ q h))
-
-  pub table-own : {t u : Row} → isNot row ≡ false → n .rows < 128 → Below 65 row → t ≡ signed s row → u ≡ renumbered (n .numbers) s t
-      → record { rows = n .rows + 1; numbers = set (n .numbers) slot (n .rows + 1); places = set (n .places) (n .rows) (record { row = u }) } ≡ numberingOf (listRow row s l)
-  unfolding numberingOf
-  table-own {t} {u} z m b p y =
-      let k : length (l .rows) < 128 = rw e at m in
-      let w : u ≡ renumbered (l .numbers) s (signed s row) = rw (y, e, p) (renumber-placed (l .numbers) s (signed s row) (λ x o. b x (alike-operand (alike-signed s row) x o))) in
-      rw (e, z, w, number-next (l .numbers) slot (length (l .rows) + 1) q h, placed-more 128 inPlace unused (l .rows) (renumbered (l .numbers) s (signed s row)) k, length-snoc (l .rows) (renumbered (l .numbers) s (signed s row)))
-
 -- ---- the rising pass
 
+abbrev placesOf : List Row → List RowPlace
+placesOf rs = placed 128 inPlace unused rs
+
 -- the tables hold the slots below j, of n
-pub record ListedAt (marks : List Bool) (ps : List RowPlace) (n j : ℕ) (t : Numbering) : Type 0 where
+pub record ListedAt (marks : List Bool) (ps : List RowPlace) (n j : ℕ) (places : List RowPlace) (numbers : List ℕ) (rows : ℕ) : Type 0 where
   pub within : j ≤ n
-  pub holds : t ≡ numberingOf (listing marks ps j)
+  pub listed : places ≡ placesOf (listing marks ps j .rows)
+  pub numbered : numbers ≡ numbersOf (listing marks ps j .numbers)
+  pub counted : rows ≡ length (listing marks ps j .rows)
 
-pub list-start : (marks : List Bool) (ps : List RowPlace) (n : ℕ) → ListedAt marks ps n 0 (record { rows = 0; numbers = replicate 128 0; places = replicate 128 (inPlace unused) })
-unfolding numberingOf listing tabulateFrom
-list-start marks ps n = record { within = omega arith; holds = refl }
+pub list-start : (marks : List Bool) (ps : List RowPlace) (n : ℕ) → ListedAt marks ps n 0 (replicate 128 (inPlace unused)) (replicate 128 0) 0
+unfolding listing tabulateFrom
+list-start marks ps n = record { within = omega arith; listed = refl; numbered = refl; counted = refl }
 
-module _ {marks : List Bool} {ps : List RowPlace} {n j : ℕ} {t : Numbering} (inv : ListedAt marks ps n j t) where
+-- the tables that hold a listing, which is that of the slots below j + 1
+list-by : {marks : List Bool} {ps : List RowPlace} {n j : ℕ} {places : List RowPlace} {numbers : List ℕ} {rows : ℕ} (l : Listing) → j < n → listing marks ps (suc j) ≡ l
+    → places ≡ placesOf (l .rows) → numbers ≡ numbersOf (l .numbers) → rows ≡ length (l .rows) → ListedAt marks ps n (j + 1) places numbers rows
+list-by l h e p q r = record { within = omega arith; listed = rw (add-one, e) p; numbered = rw (add-one, e) q; counted = rw (add-one, e) r }
+
+module _ {marks : List Bool} {ps : List RowPlace} {n j : ℕ} {places : List RowPlace} {numbers : List ℕ} {rows : ℕ} (inv : ListedAt marks ps n j places numbers rows) where
   -- there is room for one row more
-  pub list-room : t .rows ≤ j
-  unfolding numberingOf
-  list-room = rw (inv .holds) (rows-few marks ps j)
+  pub list-room : rows ≤ j
+  list-room = rw (inv .counted) (rows-few marks ps j)
 
-  module _ (h : j < n) where
-    pub list-marked : {u : Numbering} {s : Sign} → getD marks j false ≡ true → s ≡ signOf j → u ≡ numberingOf (listRow (rowIn ps (j / 2)) s (listing marks ps j)) → ListedAt marks ps n (j + 1) u
-    unfolding listing
-    list-marked m q e = record { within = omega arith; holds = rw (add-one, m) (rw q at e) }
+  module _ (h : j < n) (few : n ≤ 128) where
+    pub list-free : getD marks j false ≡ false → ListedAt marks ps n (j + 1) places numbers rows
+    list-free m = list-by (skipped (listing marks ps j)) h (slot-free marks ps j m) (inv .listed) (inv .numbered ∙ number-none (listing marks ps j .numbers)) (inv .counted)
 
-    pub list-free : getD marks j false ≡ false → ListedAt marks ps n (j + 1) t
-    unfolding numberingOf
-    list-free m =
-        record {
-          within = omega arith;
-          holds = inv .holds ∙ rw (add-one, slot-free marks ps j m) (ap (λ ns. record { rows = length (listing marks ps j .rows); numbers = ns; places = placed 128 inPlace unused (listing marks ps j .rows) }) (number-none (listing marks ps j .numbers)));
-        }
+    module _ {row : Row} {s : Sign} (marked : getD marks j false ≡ true) (r : row ≡ rowIn ps (j / 2)) (q : s ≡ signOf j) (b : Below 65 row) where
+      one-more : listing marks ps (suc j) ≡ listRow row s (listing marks ps j)
+      unfolding listing
+      one-more = rw (marked, r, q)
 
-  pub list-end : n ≤ j → t ≡ numberingOf (listing marks ps n)
-  list-end h = let w = inv .within in let e : j ≡ n = omega arith in rw e at (inv .holds)
+      count : length (listing marks ps j .numbers) ≡ j
+      count = numbers-count marks ps j
+
+      pub list-shared : {x : ℕ} → isNot row ≡ true → x ≡ numberIn numbers (firstNumber row) (turned s) → ListedAt marks ps n (j + 1) places (set numbers j x) rows
+      list-shared {x} z e =
+          let l = listing marks ps j in
+          let p = b (firstNumber row) (not-operand row z) .1 in
+          let q = place-small (turned s) in
+          let w : x ≡ numberIn (l .numbers) (firstNumber row) (turned s) = e ∙ rw (inv .numbered) (number-at (l .numbers) (slotOf (firstNumber row) (turned s)) (omega arith)) in
+          list-by (shared row s l) h (one-more ∙ rw z) (inv .listed) (rw (inv .numbered, w) (number-next (l .numbers) j _ count (omega arith))) (inv .counted)
+
+      pub list-own : {u : Row} → isNot row ≡ false → u ≡ renumbered numbers s (signed s row)
+          → ListedAt marks ps n (j + 1) (set places rows (record { row = u })) (set numbers j (rows + 1)) (rows + 1)
+      list-own {u} z e =
+          let l = listing marks ps j in
+          let new = renumbered (l .numbers) s (signed s row) in
+          let k : length (l .rows) < 128 = omega (arith, rows-few marks ps j) in
+          let w : u ≡ new = e ∙ rw (inv .numbered) (renumber-placed (l .numbers) s (signed s row) (λ x o. b x (alike-operand (alike-signed s row) x o))) in
+          list-by (nextRow row s l) h (one-more ∙ rw z)
+          (rw (inv .listed, inv .counted, w) (placed-more 128 inPlace unused (l .rows) new k))
+          (rw (inv .numbered, inv .counted) (number-next (l .numbers) j (length (l .rows) + 1) count (omega arith)))
+          (rw (inv .counted) (sym (length-snoc (l .rows) new)))
+
+  pub list-end : (signals : ℕ) → n ≤ j → record { signals = signals; rows = rows; places = places } ≡ listedForm signals (listing marks ps n)
+  unfolding listedForm
+  list-end signals h = let w = inv .within in let e : n ≡ j = omega arith in rw (e, inv .listed, inv .counted)

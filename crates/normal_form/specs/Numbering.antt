@@ -12,7 +12,6 @@ use Rattle.tables.specs.declared.row.Formula.{Formula}
 use Rattle.tables.specs.declared.row.NormalForm.{NormalForm}
 use Rattle.rule_file.specs.Rule.{inPlace, unused}
 use Rattle.normal_form.specs.declared.sign.Sign.{Sign}
-use Rattle.normal_form.specs.declared.numbering.Numbering.{Numbering}
 use Rattle.normal_form.specs.Operand.{rowIn, isNot, withOperands}
 use Rattle.normal_form.specs.Sign.{turned, signed, slotOf, signOf}
 use Rattle.normal_form.specs.Reach.{reach}
@@ -71,6 +70,6 @@ newNumber f sign k s = numberIn (normalListing f sign .numbers) k s
 unfoldable pub normalForm : Formula → Sign → NormalForm
 normalForm f s = record { signals = f .signals; rows = length (normalRows f s); places = placed 128 inPlace unused (normalRows f s) }
 
--- a listing as the code's tables hold it
-unfoldable pub numberingOf : Listing → Numbering
-numberingOf l = record { rows = length (l .rows); numbers = placed 128 (λ n. n) 0 (l .numbers); places = placed 128 inPlace unused (l .rows) }
+-- a listing as a table
+unfoldable pub listedForm : ℕ → Listing → NormalForm
+listedForm signals l = record { signals = signals; rows = length (l .rows); places = placed 128 inPlace unused (l .rows) }

@@ -17,11 +17,5 @@ pub fn normal_form(formula: Formula, sign: Sign) -> NormalForm
     ensures { λ r. ⌜ r ≡ normalForm formula sign ⌝ }
 {
     let marks = reach::reach(formula, sign);
-    let numbering = numbering::number_rows(formula, marks);
-    let places = numbering.places;
-    NormalForm {
-        signals: formula.signals,
-        rows: numbering.rows,
-        places,
-    }
+    numbering::number_rows(formula, marks)
 }

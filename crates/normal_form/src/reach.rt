@@ -10,27 +10,25 @@ use tables::row::Formula;
 use tables::row::Row;
 
 // The operands of a row under a sign get their marks.
-fn mark_operands(marks: [bool; 128], row: Row, sign: Sign) -> [bool; 128]
+fn mark_operands(marks: &mut [bool; 128], row: Row, sign: Sign)
     requires { ⌜ Below 65 row ⌝ }
-    ensures { λ r. ⌜ r ≡ operandsMarked row sign marks ⌝ }
+    ensures { λ _. ⌜ now (marks .exit) ≡ operandsMarked row sign (now (marks .entry)) ⌝ }
 {
-    let mut next = marks;
     let under = row::operand_sign(row, sign);
     match row {
         Row::Constant(_) => {}
         Row::Signal(_, _) => {}
         Row::Unary(_, a) => {
             let i = sign::slot(a, under);
-            next[i] = true;
+            marks[i] = true;
         }
         Row::Binary(_, a, b) => {
             let i = sign::slot(a, under);
             let j = sign::slot(b, under);
-            next[i] = true;
-            next[j] = true;
+            marks[i] = true;
+            marks[j] = true;
         }
     }
-    next
 }
 
 // A mark for each slot that the root, taken with a sign, reaches. Operands are earlier rows, so one pass downward finds all.
@@ -48,7 +46,7 @@ pub fn reach(formula: Formula, sign: Sign) -> [bool; 128]
             let place = formula.places[j / 2];
             let row = place.row;
             let under = sign::sign_of(j);
-            marks = mark_operands(marks, row, under);
+            mark_operands(&mut marks, row, under);
         }
     }
     marks

@@ -9,8 +9,8 @@ use Rattle.normal_form.proofs.numbering.renumber.Tie as tie
 slot-requires : tie.Need-slot-requires
 slot-requires c κs = subst (λ r. Below 65 r) (c .before .row3 .given .1) (c .before .before .before .pre) (c .before .row3 .given .0 .1 .0) refl .0
 
-array-read-x : tie.Need-array-read-x
-array-read-x c = let b = subst (λ r. Below 65 r) (c .before .before .row3 .given .1) (c .before .before .before .before .pre) (c .before .before .row3 .given .0 .1 .0) refl in omega (arith, c .slot .ensures .1, b .1)
+element-copy-out-x : tie.Need-element-copy-out-x
+element-copy-out-x c = let b = subst (λ r. Below 65 r) (c .before .before .row3 .given .1) (c .before .before .before .before .pre) (c .before .before .row3 .given .0 .1 .0) refl in omega (arith, c .slot .ensures .1, b .1)
 
 slot-requires-2 : tie.Need-slot-requires-2
 slot-requires-2 c κs = subst (λ r. Below 65 r) (c .before .row4 .given .1) (c .before .before .before .pre) (c .before .row4 .given .0 .1 .0) (inl refl) .0
@@ -18,11 +18,11 @@ slot-requires-2 c κs = subst (λ r. Below 65 r) (c .before .row4 .given .1) (c 
 slot-requires-3 : tie.Need-slot-requires-3
 slot-requires-3 c κs = subst (λ r. Below 65 r) (c .before .before .row4 .given .1) (c .before .before .before .before .pre) (c .before .before .row4 .given .0 .1 .1 .0) (inr refl) .0
 
-array-read-x-2 : tie.Need-array-read-x-2
-array-read-x-2 c = let b = subst (λ r. Below 65 r) (c .before .before .before .row4 .given .1) (c .before .before .before .before .before .pre) (c .before .before .before .row4 .given .0 .1 .0) (inl refl) in omega (arith, c .before .slot2 .ensures .1, b .1)
+element-copy-out-x-2 : tie.Need-element-copy-out-x-2
+element-copy-out-x-2 c = let b = subst (λ r. Below 65 r) (c .before .before .before .row4 .given .1) (c .before .before .before .before .before .pre) (c .before .before .before .row4 .given .0 .1 .0) (inl refl) in omega (arith, c .before .slot2 .ensures .1, b .1)
 
-array-read-y : tie.Need-array-read-y
-array-read-y c = let b = subst (λ r. Below 65 r) (c .before .before .before .row4 .given .1) (c .before .before .before .before .before .pre) (c .before .before .before .row4 .given .0 .1 .1 .0) (inr refl) in omega (arith, c .slot3 .ensures .1, b .1)
+element-copy-out-y : tie.Need-element-copy-out-y
+element-copy-out-y c = let b = subst (λ r. Below 65 r) (c .before .before .before .before .row4 .given .1) (c .before .before .before .before .before .before .pre) (c .before .before .before .before .row4 .given .0 .1 .1 .0) (inr refl) in omega (arith, c .before .slot3 .ensures .1, b .1)
 
 returns : tie.Need-returns
 returns c = rw (c .before .row .given .1)
@@ -31,10 +31,10 @@ returns-2 : tie.Need-returns-2
 returns-2 c = rw (c .before .row2 .given .1)
 
 returns-3 : tie.Need-returns-3
-returns-3 c = rw (c .slot .ensures .0, c .before .before .row3 .given .1)
+returns-3 c = rw (c .x .given, c .before .slot .ensures .0, c .before .before .before .row3 .given .1)
 
 returns-4 : tie.Need-returns-4
-returns-4 c = rw (c .before .slot2 .ensures .0, c .slot3 .ensures .0, c .before .before .before .row4 .given .1)
+returns-4 c = rw (c .before .before .before .slot2 .ensures .0, c .before .before .slot3 .ensures .0, c .before .before .before .before .before .row4 .given .1)
 
 pub renumber-spec : {M : Type 1} → statement M
 renumber-spec =
@@ -44,12 +44,12 @@ renumber-spec =
     (λ c. search needs)
     (λ c. search needs)
     slot-requires
-    array-read-x
+    element-copy-out-x
     (λ c. search needs)
     slot-requires-2
     slot-requires-3
-    array-read-x-2
-    array-read-y
+    element-copy-out-x-2
+    element-copy-out-y
     returns
     returns-2
     returns-3

@@ -9,8 +9,8 @@ use Rattle.normal_form.proofs.reach.mark_operands.Tie as tie
 slot-requires : tie.Need-slot-requires
 slot-requires c κs = subst (λ r. Below 65 r) (c .before .row .given .1) (c .before .before .before .before .pre) (c .before .row .given .0 .1 .0) refl .0
 
-array-write-next : tie.Need-array-write-next
-array-write-next c = let b = subst (λ r. Below 65 r) (c .before .before .row .given .1) (c .before .before .before .before .before .pre) (c .before .before .row .given .0 .1 .0) refl in omega (arith, c .slot .ensures .1, b .1)
+element-write-marks : tie.Need-element-write-marks
+element-write-marks c = let b = subst (λ r. Below 65 r) (c .before .before .row .given .1) (c .before .before .before .before .before .pre) (c .before .before .row .given .0 .1 .0) refl in omega (arith, c .slot .ensures .1, b .1)
 
 slot-requires-2 : tie.Need-slot-requires-2
 slot-requires-2 c κs = subst (λ r. Below 65 r) (c .before .row2 .given .1) (c .before .before .before .before .pre) (c .before .row2 .given .0 .1 .0) (inl refl) .0
@@ -18,11 +18,11 @@ slot-requires-2 c κs = subst (λ r. Below 65 r) (c .before .row2 .given .1) (c 
 slot-requires-3 : tie.Need-slot-requires-3
 slot-requires-3 c κs = subst (λ r. Below 65 r) (c .before .before .row2 .given .1) (c .before .before .before .before .before .pre) (c .before .before .row2 .given .0 .1 .1 .0) (inr refl) .0
 
-array-write-next-2 : tie.Need-array-write-next-2
-array-write-next-2 c = let b = subst (λ r. Below 65 r) (c .before .before .before .row2 .given .1) (c .before .before .before .before .before .before .pre) (c .before .before .before .row2 .given .0 .1 .0) (inl refl) in omega (arith, c .before .slot2 .ensures .1, b .1)
+element-write-marks-2 : tie.Need-element-write-marks-2
+element-write-marks-2 c = let b = subst (λ r. Below 65 r) (c .before .before .before .row2 .given .1) (c .before .before .before .before .before .before .pre) (c .before .before .before .row2 .given .0 .1 .0) (inl refl) in omega (arith, c .before .slot2 .ensures .1, b .1)
 
-array-write-next-3 : tie.Need-array-write-next-3
-array-write-next-3 c = let b = subst (λ r. Below 65 r) (c .before .before .before .row2 .given .1) (c .before .before .before .before .before .before .pre) (c .before .before .before .row2 .given .0 .1 .1 .0) (inr refl) in omega (arith, c .slot3 .ensures .1, b .1)
+element-write-marks-3 : tie.Need-element-write-marks-3
+element-write-marks-3 c = let b = subst (λ r. Below 65 r) (c .before .before .before .row2 .given .1) (c .before .before .before .before .before .before .pre) (c .before .before .before .row2 .given .0 .1 .1 .0) (inr refl) in omega (arith, c .slot3 .ensures .1, b .1)
 
 returns-3 : tie.Need-returns-3
 returns-3 c = let e = c .before .before .before .before .operand-sign .ensures in rw (c .slot .ensures .0, e, c .before .before .row .given .1)
@@ -39,12 +39,12 @@ mark-operands-spec =
     (λ c. search needs)
     (λ c. search needs)
     slot-requires
-    array-write-next
+    element-write-marks
     (λ c. search needs)
     slot-requires-2
     slot-requires-3
-    array-write-next-2
-    array-write-next-3
+    element-write-marks-2
+    element-write-marks-3
     (λ c. search needs)
     (λ c. search needs)
     returns-3

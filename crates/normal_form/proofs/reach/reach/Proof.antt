@@ -38,10 +38,10 @@ element-copy-out-place : tie.Need-element-copy-out-place Inv-loop μ-loop
 element-copy-out-place c = omega (arith, c .before .before .before .before .pre .most-rows, c .before .before .loop .inv .within)
 
 mark-operands-requires : tie.Need-mark-operands-requires Inv-loop μ-loop
-mark-operands-requires c κs = slot-row-fits (c .before .before .before .before .before .before .args .t1) (c .before .before .before .before .before .before .pre) (c .before .before .before .before .loop .j - 1) (omega (arith, c .before .before .before .before .loop .inv .within))
+mark-operands-requires c κs = slot-row-fits (c .before .before .before .before .before .before .before .args .t1) (c .before .before .before .before .before .before .before .pre) (c .before .before .before .before .before .loop .j - 1) (omega (arith, c .before .before .before .before .before .loop .inv .within))
 
 loop-again : tie.Need-loop-again Inv-loop μ-loop
-loop-again c = rw (c .mark-operands .ensures, c .before .sign-of .ensures) (down-marked (c .before .before .before .before .before .loop .inv) (search needs) (c .before .before .before .if1 .taken))
+loop-again c = rw (c .mark-operands .ensures, c .before .before .sign-of .ensures) (down-marked (c .before .before .before .before .before .before .loop .inv) (search needs) (c .before .before .before .before .if1 .taken))
 
 loop-again-2 : tie.Need-loop-again-2 Inv-loop μ-loop
 loop-again-2 c = down-free (c .before .before .loop .inv) (search needs) (c .if1 .left)
