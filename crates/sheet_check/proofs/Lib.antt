@@ -1,3 +1,5 @@
+pub mod WordLaws
+pub mod WordLoop
 pub mod RunLoop
 pub mod SurveyLoop
 pub mod Findings

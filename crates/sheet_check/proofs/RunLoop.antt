@@ -22,15 +22,15 @@ use Rattle.sheet_check.specs.declared.row.Reads.{Reads}
 use Rattle.sheet_check.specs.declared.row.RowRun.{RowRun}
 use Rattle.sheet_check.specs.RowRun.{rowPending, CourseOf, AcceptedTo, courseOutput, coursePending, RowRunOf}
 
-or-cases : (x y : Bool) → (x || y) ≡ true → (x ≡ true) ⊎ (y ≡ true)
+pub or-cases : (x y : Bool) → (x || y) ≡ true → (x ≡ true) ⊎ (y ≡ true)
 or-cases true y e = inl refl
 or-cases false y e = inr e
 
-or-none : (x y : Bool) → (x || y) ≡ false → (x ≡ false) × (y ≡ false)
+pub or-none : (x y : Bool) → (x || y) ≡ false → (x ≡ false) × (y ≡ false)
 or-none true y e = absurd (true≢false e)
 or-none false y e = (refl, e)
 
-and-both : (x y : Bool) → (x && y) ≡ true → (x ≡ true) × (y ≡ true)
+pub and-both : (x y : Bool) → (x && y) ≡ true → (x ≡ true) × (y ≡ true)
 and-both true y e = (refl, e)
 and-both false y e = absurd (true≢false (sym e))
 

@@ -1,4 +1,5 @@
 pub mod RowRun
+pub mod Word
 pub mod Survey
 pub mod Finding
 pub mod Conclusion

@@ -1,12 +1,15 @@
 // The monitor of one row, run along the take.
+use crate::word;
 use monitors::State;
 use tables::row::Row;
 use tables::trace::Line;
 ghost use mathlib.Core.Path.{_≡_};
 ghost use Prim.Native.Nat.{ℕ, suc, _≤_, _<_};
+ghost use mathlib.Core.Bool.{true};
 ghost use lib.Dec.{ltb};
 ghost use Rattle.tables.specs.Choice.{pick};
 ghost use Rattle.sheet_check.specs.RowRun.{CourseOf, RowRunOf};
+ghost use Rattle.sheet_check.specs.Word.{WholeWord};
 
 // The lines that a row's monitor reads: its own activator, and what stands at its numbers.
 pub struct Reads {
@@ -43,6 +46,18 @@ fn next_cycle(c: u16, course: Course) -> u16
     course.start
 }
 
+// The next 64 cycles of the course are one word of the recording, and all of them count or none.
+fn whole_word(c: u16, i: u16, course: Course) -> bool
+    requires { ⌜ (c < 256) × (i < 512) ⌝ }
+    ensures { λ r. ⌜ (r ≡ true → WholeWord c i course) ⌝ }
+{
+    (c % 64 == 0)
+        & (c + 64 <= course.cycles)
+        & (i + 64 <= course.end)
+        & ((i + 64 <= course.from) | (course.from <= i))
+}
+
+// Word by word where nothing fails in it and an accept that counts needs no search, else cycle by cycle.
 pub fn run_row(row: Row, reads: Reads, course: Course) -> RowRun
     requires { ⌜ CourseOf course ⌝ }
     ensures { λ r. ⌜ RowRunOf row reads course r ⌝ }
@@ -52,9 +67,26 @@ pub fn run_row(row: Row, reads: Reads, course: Course) -> RowRun
         pending: false,
         accepted: false,
     };
+    // no row waits more than this: where it accepts so, it always does
+    let most = State {
+        active: true,
+        pending: true,
+    };
+    let waiting = monitors::row(row, false, false, most);
     let mut c = 0u16;
     let mut i = 0u16;
     while i < course.end {
+        if whole_word(c, i, course) {
+            let word = word::run_word(row, reads, (c / 64) as usize, run.pending);
+            let counts = course.from <= i;
+            if word.clean & (!counts | run.accepted | waiting.accept | !word.pending) {
+                run.pending = word.pending;
+                run.accepted = run.accepted | counts;
+                c = next_cycle(c + 63, course);
+                i += 64;
+                continue;
+            }
+        }
         let state = State {
             active: lines::line::bit(reads.active, c as usize),
             pending: run.pending,
