@@ -1,78 +1,14 @@
 #!/usr/bin/env python3
 """Writes the cases of crates/judge_files: rule and take files, their names in pairs, and what `judge` must print of each pair.
 
-The verdicts are worked out here a further way, from 01's meaning: each row is asked at a cycle, and a temporal row walks forward
-from there, cycle by cycle, until its operands decide, the open take ends, or it comes to a cycle that it has seen. A looped take is
-judged by the rule as written, an open one by the normal forms of make_normal_cases.py. Where 01 gives a verdict it stands here by
-hand, and so do all refusals (01, "Why a file is turned back")."""
+The verdicts are worked out from 01's meaning (logic.py). Where 01 gives a verdict it stands here by hand, and so do all refusals (01,
+"Why a file is turned back")."""
 import collections
-import functools
 import os
-import sys
 
-from make_normal_cases import normal
+from logic import normal, verdict
 
 HERE = os.path.join(os.path.dirname(os.path.abspath(__file__)), '..', 'crates', 'judge_files')
-sys.setrecursionlimit(10000)
-
-
-def truth(rows, cycles, loop):
-    """A function that says whether row k is true at cycle i; on an open take (loop None) strongly, for rows of a normal form."""
-    split = [(r.split()[0], [int(n) for n in r.split()[1:]]) for r in rows]
-
-    def after(i):
-        return i + 1 if i + 1 < len(cycles) else loop
-
-    def walk(i, goal, keep, endless):
-        seen = set()
-        while i is not None and i not in seen:
-            if goal(i):
-                return True
-            if not keep(i):
-                return False
-            seen.add(i)
-            i = after(i)
-        return endless and i is not None
-
-    @functools.lru_cache(None)
-    def holds(k, i):
-        word, numbers = split[k - 1]
-        if word in ('true', 'false'):
-            return word == 'true'
-        if word in ('sig', 'nsig'):
-            return (cycles[i][numbers[0] - 1] == '1') == (word == 'sig')
-        a, b = [functools.partial(holds, n) for n in (numbers * 2)[:2]]
-        if word == 'not':
-            assert loop is not None
-            return not a(i)
-        if word == 'and':
-            return a(i) and b(i)
-        if word == 'or':
-            return a(i) or b(i)
-        if word == 'next':
-            return after(i) is not None and a(after(i))
-        if word == 'always':
-            return walk(i, lambda j: False, a, True)
-        if word == 'ever':
-            return walk(i, a, lambda j: True, False)
-        if word in ('until', 'weak'):
-            return walk(i, b, a, word == 'weak')
-        return walk(i, lambda j: a(j) and b(j), b, word == 'release')
-
-    return holds
-
-
-def root_holds(rows, cycles, loop):
-    return truth(rows, cycles, loop)(len(rows), 0)
-
-
-def verdict(rows, cycles, loop):
-    if loop is not None:
-        return 'holds' if root_holds(rows, cycles, loop) else 'breaks'
-    kept, broken = (root_holds(normal(rows, plain), cycles, None) for plain in (True, False))
-    assert not (kept and broken)
-    return 'kept' if kept else 'broken' if broken else 'open'
-
 
 files, tables, pairs, counted = {}, {}, [], collections.Counter()
 

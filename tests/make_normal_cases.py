@@ -1,41 +1,12 @@
 #!/usr/bin/env python3
 """Writes the cases of crates/write_normals: rule files, their names and what must be printed of each.
 
-The expected text is made here a second way, from 01's words on the normal form: collect the rows that the root reaches and the
-signs it reaches them under, by walking down from the root; sort by old number, plain before negated; leave out `not`."""
+The expected text is made from 01's words on the normal form (logic.py)."""
 import os
 
+from logic import normal
+
 HERE = os.path.join(os.path.dirname(os.path.abspath(__file__)), '..', 'crates', 'write_normals')
-PARTNER = {'true': 'false', 'sig': 'nsig', 'and': 'or', 'next': 'next', 'always': 'ever', 'weak': 'srelease', 'until': 'release'}
-PARTNER.update({b: a for a, b in PARTNER.items()})
-
-
-def normal(rows, plain):
-    split = [r.split() for r in rows]
-    seen, todo = set(), [(len(rows), plain)]
-    while todo:
-        k, sign = todo.pop()
-        if (k, sign) in seen:
-            continue
-        seen.add((k, sign))
-        word, *numbers = split[k - 1]
-        if word not in ('sig', 'nsig'):
-            todo += [(int(n), sign ^ (word == 'not')) for n in numbers]
-    order = sorted(((k, not s) for k, s in seen if split[k - 1][0] != 'not'))
-    place = {(k, not n): i for i, (k, n) in enumerate(order, 1)}
-
-    def number(k, sign):
-        while split[k - 1][0] == 'not':
-            k, sign = int(split[k - 1][1]), not sign
-        return str(place[k, sign])
-
-    out = []
-    for k, negated in order:
-        word, *numbers = split[k - 1]
-        if word not in ('sig', 'nsig'):
-            numbers = [number(int(n), not negated) for n in numbers]
-        out.append(' '.join([PARTNER[word] if negated else word] + numbers))
-    return out
 
 
 def text(rows, signals):

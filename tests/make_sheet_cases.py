@@ -5,68 +5,18 @@ check_files: a rule, a take and a sheet; what `check_sheet` prints of them.
 sheet_files: a rule and a take; the sheet file, `none` or the refusal, as `sheet` prints it.
 try_sheets:  a rule and a take with few rows and cycles; the verdict, and how many of all sheets pass.
 
-The monitors and the check stand here a further way, from 01's table: all monitors go one cycle at a time until a cycle comes again
-with the same pendings, and from there on everything comes again. The sheets are made of the truth of make_judge_cases.py. Where 01
-gives an answer it stands here by hand, and so do the answers that a case is there for, and all refusals."""
+The monitors and the check are those of monitors.py, the sheets are made of the truth of logic.py. Where 01 gives an answer it stands
+here by hand, and so do the answers that a case is there for, and all refusals."""
 import collections
 import itertools
 import os
 
 import make_judge_cases as judge
-from make_judge_cases import file, files, normal, one, rule, rule_text, tables, take, truth, two, verdict
+from logic import normal, truth, verdict
+from make_judge_cases import file, files, one, rule, rule_text, tables, take, two
+from monitors import MONITORS, finding
 
 CRATES = os.path.join(os.path.dirname(os.path.abspath(__file__)), '..', 'crates')
-
-# 01's table: failed, accept, pending; s is the row's signal, a and b are its operands' activators
-MONITORS = {
-    'true': lambda z, y, g, s, a, b: (False, True, False),
-    'false': lambda z, y, g, s, a, b: (z, True, False),
-    'sig': lambda z, y, g, s, a, b: (z and not s, True, False),
-    'nsig': lambda z, y, g, s, a, b: (z and s, True, False),
-    'and': lambda z, y, g, s, a, b: (z and not (a and b), True, False),
-    'or': lambda z, y, g, s, a, b: (z and not (a or b), True, False),
-    'next': lambda z, y, g, s, a, b: (y and not a, True, z),
-    'always': lambda z, y, g, s, a, b: (g and not a, True, g),
-    'ever': lambda z, y, g, s, a, b: (False, not (g and not a), g and not a),
-    'weak': lambda z, y, g, s, a, b: (g and not b and not a, True, g and not b),
-    'until': lambda z, y, g, s, a, b: (g and not b and not a, not (g and not b), g and not b),
-    'release': lambda z, y, g, s, a, b: (g and not b, True, g and not a),
-    'srelease': lambda z, y, g, s, a, b: (g and not b, not (g and not a), g and not a),
-}
-
-
-def step(rows, pending, active, signals):
-    """Failed, accept and pending of each row; what is given are Bools, by row and by signal."""
-    said = []
-    for k, row in enumerate(rows):
-        word, *numbers = row.split()
-        places = [int(n) - 1 for n in numbers]
-        s = word in ('sig', 'nsig') and signals[places[0]]
-        a, b = ([active[p] for p in places] + [False, False])[:2] if word not in ('sig', 'nsig') else (False, False)
-        said.append(MONITORS[word](active[k], pending[k], active[k] or pending[k], s, a, b))
-    return said
-
-
-def finding(rows, cycles, loop, lines):
-    """What the check of a sheet finds, for the rows of a normal form; a line of digits for each row."""
-    if lines[-1][0] != '1':
-        return 'root'
-    pending, i, accepts, been = (False,) * len(rows), 0, [], {}
-    while i is not None and (i, pending) not in been:
-        been[i, pending] = len(accepts)
-        said = step(rows, pending, [z[i] == '1' for z in lines], [d == '1' for d in cycles[i]])
-        failed = [k for k, (fails, _, _) in enumerate(said, 1) if fails]
-        if failed:
-            return f'failed {failed[0]} {len(accepts)}'
-        accepts.append([accept for _, accept, _ in said])
-        pending = tuple(p for _, _, p in said)
-        i = i + 1 if i + 1 < len(cycles) else loop
-    if i is None:
-        left, word = [k for k, p in enumerate(pending, 1) if p], 'pending'
-    else:
-        again = accepts[been[i, pending]:]
-        left, word = [k for k in range(1, len(rows) + 1) if not any(a[k - 1] for a in again)], 'starved'
-    return f'{word} {left[0]}' if left else 'passes'
 
 
 def text_of(found):

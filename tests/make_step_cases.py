@@ -1,13 +1,15 @@
 #!/usr/bin/env python3
 """Writes the cases of crates/step_calls: rule files, the arguments of the calls, and what must be printed.
 
-The monitors are those of make_sheet_cases.py, from 01's table; refusals stand here by hand. Lent bytes are dots, so that what a call
+The monitors are those of monitors.py, from 01's table; refusals stand here by hand. Lent bytes are dots, so that what a call
 writes and what it leaves can be seen."""
 import itertools
 import os
 
-from make_judge_cases import files, normal, rule, tables, take
-from make_sheet_cases import MONITORS, step, true_lines
+from logic import normal
+from make_judge_cases import files, rule, tables, take
+from make_sheet_cases import true_lines
+from monitors import MONITORS, step
 
 HERE = os.path.join(os.path.dirname(os.path.abspath(__file__)), '..', 'crates', 'step_calls')
 calls = []

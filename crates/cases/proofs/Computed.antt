@@ -1,9 +1,8 @@
 -- What has to be computed for a case (Computed), and that the case is then so (computed-says). Assumes nothing.
 use Prim.Native.Nat.{ℕ}
-use mathlib.Core.Path.{_≡_, refl, sym, ap, _∙_}
-use mathlib.Core.Bool.{Bool, true, false}
+use mathlib.Core.Path.{_≡_, refl}
+use mathlib.Core.Bool.{true}
 use mathlib.Core.List.{List, [], _∷_}
-use lib.Dec.{eqb}
 use Rattle.tables.specs.declared.refusal.Outcome.{Outcome}
 use Rattle.tables.specs.declared.refusal.Outcome.the-variants.{Accepted}
 use Rattle.tables.specs.declared.row.Formula.{Formula}
@@ -26,7 +25,7 @@ use Rattle.judging.specs.Refusals.{pairOutcome, needsLoop, needsNoLoop}
 use Rattle.tables.specs.Refusal.{andThen}
 use Rattle.judging.proofs.ByBits.{computedVerdict, verdict-computed, answered}
 use Rattle.judge_text.specs.Text.{verdictText}
-use Rattle.judge_text.specs.Answer.{IsPairText, IsText}
+use Rattle.judge_text.specs.Answer.{IsText}
 use Rattle.judge_text.proofs.Answers.{judged-text}
 use Rattle.sheet_check.specs.declared.finding.Finding.{Finding}
 use Rattle.cases.proofs.ComputedSheets.{ChecksTo, check-computed, MakesTo, make-computed}

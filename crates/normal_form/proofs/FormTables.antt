@@ -1,11 +1,11 @@
 -- A normal form as a table of rows: what its rows name, for the theorems of the meaning. Assumes nothing.
 use Prim.Native.Nat.{ℕ, zero, suc, _+_, _-_, _≤_, _<_}
 use mathlib.Core.Path.{_≡_, refl, ap, sym, subst, _∙_}
-use mathlib.Core.Bool.{Bool, true, false, true≢false}
+use mathlib.Core.Bool.{true, false, true≢false}
 use mathlib.Core.List.{List}
 use native.Mathlib.Decide.{decLt, ℕ-discrete}
 use native.Mathlib.Omega.{arith}
-use lib.Dec.{eqb, leb}
+use lib.Dec.{leb}
 use lib.ListN.{length, getD, List·getD-eq-default}
 use borrow.Author.Tests.{eq-eqb}
 use Rattle.tables.specs.Choice.{pick}
@@ -20,10 +20,10 @@ use Rattle.text.proofs.Elements.{ok-at}
 use Rattle.rule_row.specs.Row.{isSignal, inRange}
 use Rattle.rule_file.specs.Rule.{inPlace, unused}
 use Rattle.rule_row.proofs.RowValues.{signal-most}
-use Rattle.meaning.specs.Satisfaction.{Table, tableOf}
+use Rattle.meaning.specs.Satisfaction.{tableOf}
 use Rattle.meaning.proofs.Rows.{Each, each-map, EachSignal, each-signal-map, Ordered, Positive}
 use Rattle.normal_form.specs.Operand.{rowIn, isNot}
-use Rattle.normal_form.specs.Form.{formRows, InNormalForm}
+use Rattle.normal_form.specs.Form.{InNormalForm}
 use Rattle.normal_form.proofs.Operands.{range-below}
 use Rattle.normal_form.proofs.SameMeaning.{positive-row, each-operand}
 

@@ -1,5 +1,5 @@
 -- The answers of a sheet check by their cases. Assumes nothing.
-use mathlib.Core.Path.{_≡_, refl, sym, ap, subst⁻¹, _∙_}
+use mathlib.Core.Path.{_≡_, refl, ap, subst⁻¹, _∙_}
 use mathlib.Core.Bool.{true, false, _&&_}
 use lib.Dec.{eqb}
 use Rattle.tables.specs.Choice.{pick}

@@ -1,6 +1,6 @@
 -- How late a failure can be found. Assumes nothing.
 use Prim.Native.Nat.{ℕ, _+_, _-_, _<_}
-use mathlib.Core.Path.{_≡_, sym, _∙_}
+use mathlib.Core.Path.{sym, _∙_}
 use mathlib.Core.Bool.{true≢false}
 use native.Mathlib.Decide.{decLt}
 use native.Mathlib.Omega.{arith}

@@ -1,10 +1,10 @@
 -- What the check concludes from its survey is the finding: the cycles that it goes through decide. Assumes nothing.
-use Prim.Native.Nat.{ℕ, zero, suc, _+_, _-_, _≤_, _<_}
-use mathlib.Core.Path.{_≡_, refl, sym, ap, subst, subst⁻¹, _∙_}
+use Prim.Native.Nat.{ℕ, suc, _+_, _-_, _≤_, _<_}
+use mathlib.Core.Path.{_≡_, sym, ap, subst, subst⁻¹, _∙_}
 use mathlib.Core.Bool.{Bool, true, false}
 use native.Mathlib.Decide.{decLt, ℕ-discrete}
 use native.Mathlib.Omega.{arith}
-use lib.Dec.{eqb, ltb}
+use lib.Dec.{eqb}
 use borrow.Author.Tests.{eq-eqb, ne-eqb, lt-ltb, le-ltb}
 use Rattle.tables.specs.Choice.{pick}
 use Rattle.tables.specs.declared.row.Row.{Row}
@@ -15,23 +15,22 @@ use Rattle.tables.specs.declared.trace.Ending.{Ending}
 use Rattle.tables.specs.declared.trace.Ending.the-variants.{Open, Loop}
 use Rattle.tables.specs.declared.trace.Trace.{Trace}
 use Rattle.take_file.specs.Valid.{Below as LoopBelow}
-use Rattle.meaning.specs.Trace.{signalAt, position}
+use Rattle.meaning.specs.Trace.{signalAt}
 use Rattle.meaning.specs.Satisfaction.{tableOf}
 use Rattle.meaning.proofs.Rows.{Each, each-signal}
 use Rattle.meaning.proofs.Periodic.{position-first}
 use Rattle.monitors.specs.declared.Output.{Output}
-use Rattle.monitors.specs.Run.{pendingBefore, output}
+use Rattle.monitors.specs.Run.{pendingBefore}
 use Rattle.monitors.specs.Sheet.{activatorAt, loopedOutput, openOutput, IsRow, PassesLooped, PassesOpen}
-use Rattle.monitors.proofs.Locality.{pending-local, output-local}
+use Rattle.monitors.proofs.Locality.{output-local}
 use Rattle.monitors.proofs.Periods.{lasso-never-fails, lasso-accepts, lasso-starved}
 use Rattle.sheet_check.specs.declared.finding.Finding.{Finding}
-use Rattle.sheet_check.specs.declared.finding.Finding.the-variants.{Failed, Starved, Pending, Passes}
-use Rattle.sheet_check.specs.declared.row.Course.{Course}
+use Rattle.sheet_check.specs.declared.finding.Finding.the-variants.{Failed, Passes}
 use Rattle.sheet_check.specs.declared.survey.Survey.{Survey}
 use Rattle.sheet_check.specs.RowRun.{CourseOf}
 use Rattle.sheet_check.specs.Survey.{LowestOf, said, waiting, Accepts, Starves, SurveyTo}
 use Rattle.sheet_check.specs.Finding.{RootSet, NoneFails, Returns, FailsFirst, StarvesFirst, PendsFirst, FindingOf}
-use Rattle.sheet_check.specs.Conclusion.{courseOf, atEnd, concluded}
+use Rattle.sheet_check.specs.Conclusion.{courseOf, concluded}
 use Rattle.sheet_check.proofs.Findings.{failed-only, starved-only, pending-only, looped-only, open-only, finding-by}
 
 pub course-fits : (n : ℕ) (e : Ending) → 1 ≤ n → n ≤ 256 → LoopBelow n e → CourseOf (courseOf n e)

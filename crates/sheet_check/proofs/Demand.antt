@@ -15,7 +15,7 @@ use Rattle.sheet_check.specs.declared.finding.Finding.the-variants.{Pass
 use Rattle.sheet_check.specs.declared.finding.CheckAnswer.{CheckAnswer}
 use Rattle.sheet_check.specs.declared.finding.CheckAnswer.the-variants.{Refused as CheckRefused, Checked}
 use Rattle.sheet_check.specs.Finding.{FindingSays, FindingOf}
-use Rattle.sheet_check.specs.Answer.{checkOutcome, CheckAnswers}
+use Rattle.sheet_check.specs.Answer.{CheckAnswers}
 
 -- each finding is given exactly when what it says is so
 pub finding-exactly : (g : NormalForm) (t : Trace) (a : Activation) (x : Finding) → FindingOf g t a x → (y : Finding) → FindingSays g t a (t .ending) y ↔ (y ≡ x)

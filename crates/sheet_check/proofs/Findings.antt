@@ -1,8 +1,8 @@
 -- Each sheet has one finding. Assumes nothing.
-use Prim.Native.Nat.{ℕ, _≤_, _<_}
+use Prim.Native.Nat.{ℕ, _<_}
 use mathlib.Core.Path.{_≡_, refl, sym, ap, ap₂, subst, _∙_}
 use mathlib.Core.Logic.{_⊎_, inl, inr}
-use mathlib.Core.Bool.{true, false}
+use mathlib.Core.Bool.{false}
 use native.Mathlib.Decide.{decLt}
 use native.Mathlib.Omega.{arith}
 use Rattle.tables.specs.declared.row.NormalForm.{NormalForm}
@@ -11,7 +11,7 @@ use Rattle.tables.specs.declared.trace.Ending.{Ending}
 use Rattle.tables.specs.declared.trace.Ending.the-variants.{Open, Loop}
 use Rattle.tables.specs.declared.trace.Trace.{Trace}
 use Rattle.meaning.proofs.Readings.{on-and-off}
-use Rattle.monitors.specs.Sheet.{activatorAt, IsRow, PassesLooped, PassesOpen, PassesIn}
+use Rattle.monitors.specs.Sheet.{activatorAt, PassesLooped, PassesOpen, PassesIn}
 use Rattle.sheet_check.specs.declared.finding.Finding.{Finding}
 use Rattle.sheet_check.specs.declared.finding.Finding.the-variants.{Root, Failed, Starved, Pending, Passes}
 use Rattle.sheet_check.specs.Finding.{RootSet, NoneFails, FailsFirst, StarvesFirst, PendsFirst, FindingSays, FindingOf}

@@ -7,7 +7,7 @@ use mathlib.Core.List.{List, []}
 use native.Mathlib.Nat.{eq-or-lt-of-le}
 use native.Mathlib.Decide.{decLt, ℕ-discrete}
 use native.Mathlib.Omega.{arith}
-use lib.Dec.{eqb, ltb}
+use lib.Dec.{eqb}
 use lib.ListN.{getD}
 use borrow.Author.Tests.{eq-eqb, ne-eqb, lt-ltb, le-ltb}
 use Rattle.tables.specs.Choice.{pick}
@@ -20,7 +20,6 @@ use Rattle.tables.specs.declared.trace.Line.{Line}
 use Rattle.tables.specs.declared.trace.Trace.{Trace}
 use Rattle.meaning.specs.Trace.{signalAt, position}
 use Rattle.meaning.specs.Satisfaction.{tableOf}
-use Rattle.meaning.proofs.Readings.{on-and-off}
 use Rattle.monitors.specs.declared.Output.{Output}
 use Rattle.monitors.specs.declared.State.{State}
 use Rattle.monitors.specs.Monitor.{rowMonitor, monitor}

@@ -2,7 +2,7 @@
 use mathlib.Core.Path.{_≡_, refl, sym, ap, _∙_}
 use mathlib.Core.Bool.{Bool, true, false}
 use Prim.Native.Nat.{ℕ, zero, suc, _+_, _*_, _-_, _/_, _%_, _^_, _≤_, _<_}
-use native.Mathlib.Nat.{pow-suc, pow-zero, div-one, div-div-eq-div-mul}
+use native.Mathlib.Nat.{pow-suc, pow-zero, div-div-eq-div-mul}
 use native.Mathlib.Omega.{arith}
 use native.Mathlib.Decide.{ℕ-discrete}
 use lib.Dec.{eqb}
@@ -10,7 +10,6 @@ use lib.ListN.{getD, set}
 use Rattle.tables.specs.Choice.{pick}
 use Rattle.tables.specs.Place.{tabulate}
 use Rattle.tables.specs.Bit.{bitAt, wordFrom, lineOf, marked}
-use Rattle.tables.specs.declared.trace.Line.{Line}
 use Rattle.tables.proofs.Places.{getD-tabulate, tabulate-ext, set-tabulate}
 
 pub digit : (b : Bool) → pick b 1 0 < 2

@@ -1,5 +1,5 @@
 -- The kinds of rows: their words and their partners under negation, once, as a table (01, "Normal form"). Assumes nothing.
-use Prim.Native.Nat.{ℕ, _-_}
+use Prim.Native.Nat.{ℕ}
 use Prim.Native.String.{String}
 use mathlib.Core.List.{List, [], _∷_, _++_}
 use lib.ListN.{length, getD, take, replicate}

@@ -1,6 +1,5 @@
 -- The numbered lines of a file: how their reading goes on from line to line, and their written form. Assumes nothing.
 use mathlib.Core.Path.{_≡_, refl, sym, ap, _∙_, subst}
-use mathlib.Core.Bool.{Bool, true, false}
 use mathlib.Core.List.{List, [], _∷_, _++_, append-assoc, append-nil}
 use Prim.Native.Nat.{ℕ, zero, suc, _+_, _-_, _≤_, _<_}
 use native.Mathlib.Nat.{sub-zero, zero-add}
@@ -8,17 +7,16 @@ use native.Mathlib.Omega.{arith}
 use lib.Dec.{eqb}
 use lib.ListN.{length, drop, length-append}
 use borrow.Author.Tests.{eq-eqb, ne-eqb, eqb-true}
-use Rattle.tables.specs.Choice.{pick}
 use Rattle.tables.specs.declared.refusal.Reason.{Reason}
 use Rattle.tables.specs.declared.refusal.Reason.the-variants.{WrongForm}
 use Rattle.text.specs.Line.{isNumbered, keyedLine}
-use Rattle.text.specs.Result.{Parsed, Next, Result, onParsed, onLine, mapResult, outcomeOf}
+use Rattle.text.specs.Result.{Parsed, Next, Result, onParsed, mapResult, outcomeOf}
 use Rattle.text.specs.Result.Parsed.{good, bad}
 use Rattle.text.specs.Result.Result.{accepted, refused}
 use Rattle.text.specs.Body.{bodyLines, EachAt}
 use Rattle.text.specs.Written.{decimal, writtenLine, writtenBody}
 use Rattle.text.proofs.Searching.{clash, each-pick}
-use Rattle.text.proofs.Lines.{Free, NoDigit, free-decimal, no-digit-below, no-digit-above, line-step, LineOf, line-read, numbered-written, numbered-read}
+use Rattle.text.proofs.Lines.{Free, free-decimal, no-digit-below, no-digit-above, line-step, LineOf, line-read, numbered-written, numbered-read}
 
 pub map-map : {A B C : Type 0} (f : B → C) (g : A → B) (r : Result A) → mapResult f (mapResult g r) ≡ mapResult (λ x. f (g x)) r
 map-map f g (accepted x) = refl

@@ -1,5 +1,5 @@
 -- Counts and their written form. Assumes nothing.
-use mathlib.Core.Path.{_≡_, refl, sym, ap, _∙_}
+use mathlib.Core.Path.{_≡_, sym, ap, _∙_}
 use mathlib.Core.Bool.{false}
 use mathlib.Core.List.{List}
 use Prim.Native.Nat.{ℕ, _≤_, _<_}
@@ -11,15 +11,15 @@ use Rattle.tables.specs.declared.refusal.Reason.{Reason}
 use Rattle.text.specs.Number.{numberOf}
 use Rattle.text.specs.Count.{countForm, countedAs}
 use Rattle.text.specs.Line.{isKey, keyedLine}
-use Rattle.text.specs.Result.{Parsed, Next}
+use Rattle.text.specs.Result.{Parsed}
 use Rattle.text.specs.Result.Parsed.{good, bad}
 use Rattle.text.specs.Written.{decimal}
 use Rattle.text.specs.declared.line.Counted.{Counted}
-use Rattle.text.specs.declared.line.Counted.the-variants.{Count, Wrong}
+use Rattle.text.specs.declared.line.Counted.the-variants.{Count}
 use Rattle.text.specs.declared.number.Number.the-variants.{Is}
 use Rattle.text.proofs.Searching.{clash, each-pick}
 use Rattle.text.proofs.Numbers.{number-written, number-read, each-number}
-use Rattle.text.proofs.Lines.{line-inside, LineOf, line-read}
+use Rattle.text.proofs.Lines.{line-inside, line-read}
 
 -- a written count, in range or not
 pub count-form : (low high : ℕ) (outside : Reason) (n : ℕ) → n < 100000

@@ -8,15 +8,14 @@ use native.Mathlib.Omega.{arith}
 use native.Mathlib.Decide.{decLt, ℕ-discrete}
 use lib.Dec.{eqb}
 use lib.ListN.{length, getD, take, drop, length-append, length-take}
-use lib.Seq.{take-append-seam, drop-append-add, drop-append-seam, take-take, take-nil, drop-nil}
+use lib.Seq.{take-append-seam, drop-append-add, take-take, take-nil, drop-nil}
 use borrow.Author.Tests.{eq-eqb, ne-eqb, eqb-true}
 use Rattle.tables.specs.Choice.{pick}
-use Rattle.tables.specs.Bytes.{sameBytes}
 use Rattle.tables.specs.declared.refusal.Reason.{Reason}
 use Rattle.tables.specs.declared.refusal.Reason.the-variants.{WrongForm}
-use Rattle.text.specs.Search.{firstWhere, firstOf, further, onFound, part}
+use Rattle.text.specs.Search.{firstWhere, firstOf, further, part}
 use Rattle.text.specs.Number.{numberOf, onNumber}
-use Rattle.text.specs.Line.{cutOf, onCut, isKey, isNumbered, keyedLine}
+use Rattle.text.specs.Line.{cutOf, onCut, isNumbered, keyedLine}
 use Rattle.text.specs.Result.{Parsed, Next, Result, onParsed, onLine}
 use Rattle.text.specs.Result.Parsed.{good, bad}
 use Rattle.text.specs.Result.Result.{refused}
@@ -25,9 +24,8 @@ use Rattle.text.specs.declared.line.Cut.{Cut}
 use Rattle.text.specs.declared.line.Cut.the-variants.{Line, Absent}
 use Rattle.text.specs.declared.number.Number.{Number}
 use Rattle.text.specs.declared.number.Number.the-variants.{Is, Not}
-use Rattle.text.specs.declared.search.Found.{Found}
 use Rattle.text.specs.declared.search.Found.the-variants.{At, Nothing}
-use Rattle.text.proofs.Searching.{clash, hit, each-found, each-pick, further-inv, same-eq, pick-both}
+use Rattle.text.proofs.Searching.{clash, hit, each-found, each-pick, further-inv, pick-both}
 use Rattle.text.proofs.Numbers.{number-written, number-read, decimal-small, decimal-large, tenth}
 
 -- ---- a byte that does not stand in a text

@@ -1,7 +1,7 @@
 -- 01: "Each line is a key, `=`, a value, and one line feed (byte 10). The value is the part of the line behind its equals sign."
 -- Assumes nothing.
 use Prim.Native.Nat.{ℕ, _+_}
-use mathlib.Core.Bool.{Bool, true, false}
+use mathlib.Core.Bool.{Bool, false}
 use mathlib.Core.List.{List, [], _∷_}
 use lib.Dec.{eqb}
 use lib.ListN.{take}

@@ -1,6 +1,5 @@
 // Lines: a key, an equals sign, a value and a line feed.
 ghost use mathlib.Core.Path.{_≡_};
-ghost use Rattle.tables.specs.Bytes.{sameBytes};
 ghost use Rattle.text.specs.Line.{cutOf, isNumbered, isKey, keyedLine};
 ghost use Rattle.text.specs.Count.{countForm, countedAs, reasonOf};
 use crate::number::Number;

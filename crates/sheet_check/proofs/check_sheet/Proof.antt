@@ -1,11 +1,10 @@
-use mathlib.Core.Path.{_≡_, refl, sym, ap, _∙_}
+use mathlib.Core.Path.{sym, ap, _∙_}
 use mathlib.Core.Bool.{_&&_}
 use lib.Dec.{eqb}
 use Rattle.tables.specs.declared.row.NormalForm.{NormalForm}
 use Rattle.text.proofs.Searching.{know}
 use Rattle.normal_form.specs.declared.sign.Sign.the-variants.{Plain}
 use Rattle.normal_form.proofs.Ranges.{form-normal}
-use Rattle.sheet_check.specs.Finding.{FindingOf}
 use Rattle.sheet_check.proofs.Answers.{refused-answer, nine-answer, found-answer}
 use borrow.Author.Needs.{needs}
 use Rattle.sheet_check.proofs.check_sheet.Statement.{statement}

@@ -1,4 +1,4 @@
-use mathlib.Core.Path.{_≡_, refl, sym, ap, _∙_}
+use mathlib.Core.Path.{sym, _∙_}
 use Rattle.tables.proofs.Outcomes.{stops, goes, refused-only, differ, agree}
 use Rattle.take_file.proofs.Takes.{checked}
 use borrow.Author.Needs.{needs}

@@ -1,12 +1,10 @@
 use Rattle.text.proofs.Searching.{know}
 use borrow.Author.Tests.{not-true, not-false}
-use mathlib.Core.Path.{_≡_, refl, sym, ap, subst, subst⁻¹, _∙_}
+use mathlib.Core.Path.{refl, ap, subst, subst⁻¹, _∙_}
 use Rattle.sheet_check.specs.declared.row.Course.{Course}
-use native.Mathlib.Omega.{arith}
-use Rattle.sheet_check.specs.RowRun.{CourseOf}
 use Rattle.sheet_check.specs.Survey.{SurveyTo}
 use Rattle.sheet_check.specs.Finding.{FindingOf}
-use Rattle.sheet_check.specs.Conclusion.{courseOf, concluded}
+use Rattle.sheet_check.specs.Conclusion.{concluded}
 use Rattle.sheet_check.proofs.Findings.{root-only, finding-by}
 use Rattle.sheet_check.proofs.Conclusions.{course-fits, concluded-finding}
 use borrow.Author.Needs.{needs}

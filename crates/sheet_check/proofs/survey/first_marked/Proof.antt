@@ -1,6 +1,5 @@
-use mathlib.Core.Path.{_≡_, sym, ap}
+use mathlib.Core.Path.{sym, ap}
 use Rattle.tables.specs.Choice.{pick}
-use borrow.Author.Needs.{needs}
 use Rattle.sheet_check.proofs.survey.first_marked.Statement.{statement}
 use Rattle.sheet_check.proofs.survey.first_marked.Tie as tie
 

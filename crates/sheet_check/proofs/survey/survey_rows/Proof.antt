@@ -2,8 +2,8 @@ use borrow.Author.Needs.{needs}
 use mathlib.Core.List.{List, []}
 use lib.ListN.{getD}
 use Rattle.tables.specs.declared.trace.Line.{Line}
-use Prim.Native.Nat.{suc, _-_, _≤_}
-use mathlib.Core.Path.{_≡_, refl, sym, ap, subst, _∙_}
+use Prim.Native.Nat.{_-_, _≤_}
+use mathlib.Core.Path.{_≡_, refl, sym, ap, subst}
 use mathlib.Core.Logic.{⊎-elim}
 use native.Mathlib.Omega.{arith}
 use native.Mathlib.Numerals.{add-one}

@@ -1,5 +1,4 @@
 use Rattle.sheet_check.proofs.WordLaws.{word-any}
-use borrow.Author.Needs.{needs}
 use Rattle.sheet_check.proofs.word.any.Statement.{statement}
 use Rattle.sheet_check.proofs.word.any.Tie as tie
 

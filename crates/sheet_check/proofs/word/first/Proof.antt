@@ -1,5 +1,4 @@
 use Rattle.sheet_check.proofs.WordLaws.{word-first}
-use borrow.Author.Needs.{needs}
 use Rattle.sheet_check.proofs.word.first.Statement.{statement}
 use Rattle.sheet_check.proofs.word.first.Tie as tie
 

@@ -1,6 +1,5 @@
 use native.Mathlib.Omega.{arith}
 use Rattle.sheet_check.proofs.WordLaws.{word-not}
-use borrow.Author.Needs.{needs}
 use Rattle.sheet_check.proofs.word.negated.Statement.{statement}
 use Rattle.sheet_check.proofs.word.negated.Tie as tie
 

@@ -1,4 +1,3 @@
-use mathlib.Core.Path.{refl}
 use borrow.Author.Needs.{needs}
 use Rattle.tables.proofs.kind.with_numbers.Statement.{statement}
 use Rattle.tables.proofs.kind.with_numbers.Tie as tie

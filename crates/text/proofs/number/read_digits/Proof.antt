@@ -1,10 +1,8 @@
 use Rattle.text.proofs.Numbers.{DigitsAt, digits-long, digits-start, digits-bound, digits-end}
 use borrow.Author.Needs.{needs}
-use Prim.Native.Nat.{_≤_, _<_, _-_, _^_}
-use mathlib.Core.Path.{_≡_, sym, _∙_}
+use Prim.Native.Nat.{_<_, _-_}
 use native.Mathlib.Omega.{arith}
-use lib.ListN.{length, drop}
-use Rattle.text.specs.Number.{digitsFrom}
+use lib.ListN.{length}
 use Rattle.text.proofs.Numbers.{digit-low, digit-high, digit}
 use Rattle.text.proofs.number.read_digits.Statement.{statement}
 use Rattle.text.proofs.number.read_digits.Tie as tie

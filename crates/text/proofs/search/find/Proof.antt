@@ -3,12 +3,9 @@ use lib.Dec.{eqb}
 use Prim.Native.Nat.{ℕ}
 use Rattle.text.proofs.Searching.{FirstAt}
 use borrow.Author.Needs.{needs}
-use Prim.Native.Nat.{_≤_, _-_}
-use mathlib.Core.Path.{_≡_}
-use native.Mathlib.Omega.{arith}
-use lib.ListN.{length, drop}
-use Rattle.text.specs.Search.{firstOf}
-use Rattle.text.proofs.Searching.{onward, first-starts, first-hit, first-miss, first-none}
+use Prim.Native.Nat.{_-_}
+use lib.ListN.{length}
+use Rattle.text.proofs.Searching.{first-starts, first-hit, first-miss, first-none}
 use Rattle.text.proofs.search.find.Statement.{statement}
 use Rattle.text.proofs.search.find.Tie as tie
 
