@@ -3,10 +3,10 @@ use Rattle.take_file.proofs.cycle.digit_bit.Statement.{statement}
 use Rattle.take_file.proofs.cycle.digit_bit.Tie as tie
 
 returns : tie.Need-returns
-returns c = rw (eq-eqb _ _ (c .if1 .taken))
+returns c = rw (eq-eqb _ 49 (c .if1 .taken))
 
 returns-2 : tie.Need-returns-2
-returns-2 c = rw (ne-eqb _ _ (c .if1 .left))
+returns-2 c = rw (ne-eqb _ 49 (c .if1 .left))
 
 pub digit-bit-spec : {M : Type 1} → statement M
 digit-bit-spec = tie.close (tie.spec returns returns-2)
