@@ -4,6 +4,7 @@
 #     fuzz/run.sh TARGET [SECONDS]   one of: rule take sheet judge check step
 #     fuzz/run.sh build              only builds: target/fuzz/bin/TARGET FILE... then runs the files given
 #     fuzz/run.sh corpus             writes fuzz/corpus anew: of all inputs found, a few small ones that reach every edge reached
+#     fuzz/run.sh wrong              turns each comparison in the library, one at a time; says which of these libraries fuzz/corpus shows
 # What a run finds new is kept in target/fuzz/found, what it ends on in fuzz/findings. README.md says what is needed.
 set -euo pipefail
 cd "$(dirname "$0")/.."
@@ -11,71 +12,113 @@ targets='rule take sheet judge check step'
 made=$PWD/target/fuzz
 kit=${RATTLE_HOME:-$(dirname "$(dirname "$(readlink -f "$(command -v rt)")")")}
 own=on/$(uname -m)
+kit_clang=$kit/$own/toolchain/bin/clang
+export ASAN_OPTIONS=malloc_context_size=0:quarantine_size_mb=16
 
 # The kit with one thing changed: its clang also keeps the LLVM module that it is given. The library is built as ever.
 keeping_kit() {
-    rm -rf "$made/kit"
-    mkdir -p "$made/kit/$own/toolchain/bin"
-    for part in "$kit"/*; do [ "${part##*/}" = on ] || ln -s "$part" "$made/kit/"; done
-    for part in "$kit/$own"/*; do [ "${part##*/}" = toolchain ] || ln -s "$part" "$made/kit/$own/"; done
-    ln -s "$kit/$own/toolchain/lib" "$made/kit/$own/toolchain/"
-    ln -s "$kit/$own/toolchain/bin/ld.lld" "$kit/$own/toolchain/bin/llvm-ar" "$made/kit/$own/toolchain/bin/"
-    cat >"$made/kit/$own/toolchain/bin/clang" <<END
-#!/bin/sh
-cp module.bc '$made/library.bc'
-exec '$kit/$own/toolchain/bin/clang' "\$@"
-END
-    chmod +x "$made/kit/$own/toolchain/bin/clang"
+    local copy=$made/kit
+    rm -rf "$copy"
+    mkdir -p "$copy/$own/toolchain/bin"
+    for part in "$kit"/*; do [ "${part##*/}" = on ] || ln -s "$part" "$copy/"; done
+    for part in "$kit/$own"/*; do [ "${part##*/}" = toolchain ] || ln -s "$part" "$copy/$own/"; done
+    ln -s "$kit/$own/toolchain/lib" "$copy/$own/toolchain/"
+    ln -s "$kit/$own/toolchain/bin/ld.lld" "$kit/$own/toolchain/bin/llvm-ar" "$copy/$own/toolchain/bin/"
+    printf '#!/bin/sh\ncp module.bc "%s/library.bc"\nexec "%s" "$@"\n' "$made" "$kit_clang" >"$copy/$own/toolchain/bin/clang"
+    chmod +x "$copy/$own/toolchain/bin/clang"
 }
 
-# The proved library once more from its module, with a counter for each edge and every access to memory checked.
+# compile MODULE OBJECT: with a counter for each edge and every access to memory checked.
+compile() {
+    "$kit_clang" --target=x86_64-unknown-linux-gnu -fPIC -O3 -c -x ir "$1" -o "$2" \
+        -fsanitize=address -fsanitize-coverage=inline-8bit-counters,pc-table
+}
+
+# link OBJECT FOLDER: the library's object with the targets. They are one program, which looks at the name it is called by.
+link() {
+    mkdir -p "$2"
+    clang -fsanitize=fuzzer,address "$made/cargo/x86_64-unknown-linux-gnu/release/libfuzz.a" "$1" -o "$2/targets"
+    for target in $targets; do ln -f "$2/targets" "$2/$target"; done
+}
+
+# The proved library once more from its module.
 library() {
-    if [ -e "$made/library.o" ] && [ -z "$(find crates -name '*.rt' -newer "$made/library.o" -print -quit)" ]; then return; fi
+    if [ -e "$made/library.o" ] && [ -e target/staticlib/liblibrary.a ] &&
+        [ -z "$(find crates -name '*.rt' -newer "$made/library.o" -print -quit)" ]; then return; fi
     keeping_kit
     RATTLE_HOME=$made/kit rt staticlib library >"$made/library.log" 2>&1 || { cat "$made/library.log" >&2; exit 1; }
-    local clang=$kit/$own/toolchain/bin/clang
-    "$clang" -S -emit-llvm -x ir "$made/library.bc" -o "$made/library.ll"
+    "$kit_clang" -S -emit-llvm -x ir "$made/library.bc" -o "$made/library.ll"
     sed -i 's/^attributes #0 = {/& sanitize_address/' "$made/library.ll"
-    "$clang" --target=x86_64-unknown-linux-gnu -fPIC -O3 -c -x ir "$made/library.ll" -o "$made/library.o" \
-        -fsanitize=address -fsanitize-coverage=inline-8bit-counters,pc-table,trace-cmp
+    compile "$made/library.ll" "$made/library.o"
 }
 
 build() {
-    mkdir -p "$made/bin"
+    mkdir -p "$made"
     library
     local flags='-C passes=sancov-module -C llvm-args=-sanitizer-coverage-level=3'
-    for what in inline-8bit-counters pc-table trace-compares; do flags+=" -C llvm-args=-sanitizer-coverage-$what"; done
+    for what in inline-8bit-counters pc-table; do flags+=" -C llvm-args=-sanitizer-coverage-$what"; done
     (cd fuzz && RUSTFLAGS=$flags cargo build --quiet --offline --locked --release --target x86_64-unknown-linux-gnu \
         --target-dir "$made/cargo")
-    clang -fsanitize=fuzzer,address "$made/cargo/x86_64-unknown-linux-gnu/release/libfuzz.a" "$made/library.o" -o "$made/bin/rule"
-    for target in $targets; do [ "$target" = rule ] || ln -f "$made/bin/rule" "$made/bin/$target"; done
+    link "$made/library.o" "$made/bin"
+    link target/staticlib/liblibrary.a "$made/plain"
     fuzz/seeds.py "$made/seeds"
 }
 
-# Prints the last lines: executions, edges, size of the corpus, and how often each service gave each kind of answer.
+# fuzz TARGET SECONDS: prints executions, edges, size of the corpus, and how often each service gave each kind of answer. The inputs
+# kept are then run once on the library as it is delivered.
 fuzz() {
     mkdir -p "$made/found/$1" fuzz/findings
-    local status=0
-    "$made/bin/$1" -max_total_time="$2" -max_len=2048 -timeout=20 -dict=fuzz/words.dict -print_final_stats=1 \
-        -artifact_prefix="fuzz/findings/$1-" "$made/found/$1" "fuzz/corpus/$1" "$made/seeds/$1" >"$made/$1.log" 2>&1 || status=$?
-    grep -E '^#[0-9]+.(INITED|DONE)|^stat::|^tally:|panicked|ERROR|Test unit written' "$made/$1.log" || true
-    [ "$status" -eq 0 ] || { echo "fuzz/run.sh: $1 ended with $status; see target/fuzz/$1.log" >&2; exit 1; }
+    local inputs=("-artifact_prefix=fuzz/findings/$1-" "$made/found/$1" "fuzz/corpus/$1" "$made/seeds/$1") log=$made/$1.log
+    "$made/bin/$1" -max_total_time="$2" -max_len=1500 -timeout=20 -dict=fuzz/words.dict -print_final_stats=1 "${inputs[@]}" >"$log" 2>&1 ||
+        ended "$log"
+    grep -E '^#[0-9]+.(INITED|DONE)|^stat::|^tally:' "$log"
+    "$made/plain/$1" -runs=0 "${inputs[@]}" >"$log.plain" 2>&1 || ended "$log.plain"
+    sed -nE 's/^Done ([0-9]+) runs.*/as delivered: \1 runs/p' "$log.plain"
 }
 
-# Small inputs of all that were found, that reach the same edges.
-smallest() {
+ended() {
+    grep -E 'panicked|ERROR|Test unit written|^[a-z_ ]+: the ' "$1" || true
+    echo "fuzz/run.sh: a difference or a fault; see $1" >&2
+    exit 1
+}
+
+# corpus TARGET: small inputs of all that were found, that reach the same edges.
+corpus() {
     rm -rf "$made/smallest" && mkdir -p "$made/smallest" "$made/found/$1"
     "$made/bin/$1" -merge=1 -use_counters=0 -max_len=1000 \
         "$made/smallest" "fuzz/corpus/$1" "$made/seeds/$1" "$made/found/$1" >"$made/merge.log" 2>&1
     rm -rf "fuzz/corpus/$1" && mv "$made/smallest" "fuzz/corpus/$1"
 }
 
+# shown FOLDER: whether the targets there end on an input of the corpus; the first that does.
+shown() {
+    for target in $targets; do
+        "$1/$target" -runs=0 -timeout=5 -artifact_prefix="$1/" "fuzz/corpus/$target" >"$1/log" 2>&1 || { echo "$target"; return; }
+    done
+    return 1
+}
+
+wrong() {
+    local all=0 found=0 by
+    for line in $(grep -n ' icmp ' "$made/library.ll" | cut -d: -f1); do
+        sed "$line{s/icmp eq/icmp ne/;t;s/icmp ne/icmp eq/;t;s/icmp ult/icmp ule/;t;s/icmp ule/icmp ult/}" \
+            "$made/library.ll" >"$made/wrong.ll"
+        compile "$made/wrong.ll" "$made/wrong.o"
+        link "$made/wrong.o" "$made/wrong"
+        all=$((all + 1))
+        if by=$(shown "$made/wrong"); then found=$((found + 1)); else by='not shown'; fi
+        echo "$(head -n "$line" "$made/library.ll" | sed -nE 's/^define [^@]*@"?([A-Za-z_:0-9]+).*/\1/p' | tail -1), line $line: $by"
+    done
+    echo "$found of $all wrong libraries are shown"
+}
+
 for target in $targets; do mkdir -p "fuzz/corpus/$target"; done
 build
 case ${1:-all} in
 build) ;;
-corpus) for target in $targets; do smallest "$target"; done ;;
+corpus) for target in $targets; do corpus "$target"; done ;;
+wrong) wrong ;;
 all) for target in $targets; do echo "== $target" && fuzz "$target" 60; done ;;
 rule | take | sheet | judge | check | step) fuzz "$1" "${2:-60}" ;;
-*) sed -n '2,7s/^# \?//p' "$0" >&2 && exit 2 ;;
+*) sed -n '2,8s/^# \?//p' "$0" >&2 && exit 2 ;;
 esac
