@@ -4,6 +4,7 @@
 #     fuzz/run.sh TARGET [SECONDS]   one of: rule take sheet judge check step
 #     fuzz/run.sh build              only builds: target/fuzz/bin/TARGET FILE... then runs the files given
 #     fuzz/run.sh corpus             writes fuzz/corpus anew: of all inputs found, a few small ones that reach every edge reached
+#     fuzz/run.sh edges              says how many of the library's edges the corpus and the seeds reach
 #     fuzz/run.sh wrong              turns each comparison in the library, one at a time; says which of these libraries fuzz/corpus shows
 # What a run finds new is kept in target/fuzz/found, what it ends on in fuzz/findings. README.md says what is needed.
 set -euo pipefail
@@ -13,6 +14,7 @@ made=$PWD/target/fuzz
 kit=${RATTLE_HOME:-$(dirname "$(dirname "$(readlink -f "$(command -v rt)")")")}
 own=on/$(uname -m)
 kit_clang=$kit/$own/toolchain/bin/clang
+rust_part=$made/cargo/x86_64-unknown-linux-gnu/release/libfuzz.a
 export ASAN_OPTIONS=malloc_context_size=0:quarantine_size_mb=16
 
 # The kit with one thing changed: its clang also keeps the LLVM module that it is given. The library is built as ever.
@@ -37,7 +39,7 @@ compile() {
 # link OBJECT FOLDER: the library's object with the targets. They are one program, which looks at the name it is called by.
 link() {
     mkdir -p "$2"
-    clang -fsanitize=fuzzer,address "$made/cargo/x86_64-unknown-linux-gnu/release/libfuzz.a" "$1" -o "$2/targets"
+    clang -fsanitize=fuzzer,address "$rust_part" "$1" -o "$2/targets"
     for target in $targets; do ln -f "$2/targets" "$2/$target"; done
 }
 
@@ -67,7 +69,7 @@ build() {
 # fuzz TARGET SECONDS: prints executions, edges, size of the corpus, and how often each service gave each kind of answer. The inputs
 # kept are then run once on the library as it is delivered.
 fuzz() {
-    mkdir -p "$made/found/$1" fuzz/findings
+    mkdir -p fuzz/findings
     local inputs=("-artifact_prefix=fuzz/findings/$1-" "$made/found/$1" "fuzz/corpus/$1" "$made/seeds/$1") log=$made/$1.log
     "$made/bin/$1" -max_total_time="$2" -max_len=1500 -timeout=20 -dict=fuzz/words.dict -print_final_stats=1 "${inputs[@]}" >"$log" 2>&1 ||
         ended "$log"
@@ -77,17 +79,36 @@ fuzz() {
 }
 
 ended() {
-    grep -E 'panicked|ERROR|Test unit written|^[a-z_ ]+: the ' "$1" || true
-    echo "fuzz/run.sh: a difference or a fault; see $1" >&2
+    grep -vE '^#|^INFO|^tally|^stat|^"' "$1" | head -n 30 >&2
+    echo "fuzz/run.sh: stopped; see $1" >&2
     exit 1
 }
 
-# corpus TARGET: small inputs of all that were found, that reach the same edges.
+# reached FOLDER...: which edges each input of up to 1,000 bytes in FOLDER/TARGET reaches, for every target.
+reached() {
+    mkdir -p "$made/edges"
+    clang -O1 -fsanitize=address fuzz/edges.c "$made/library.o" "$rust_part" -o "$made/edges/targets"
+    for target in $targets; do
+        ln -f "$made/edges/targets" "$made/edges/$target"
+        find "${@/%//$target}" -type f -size -1001c -exec "$made/edges/$target" {} + >"$made/edges/$target.edges" 2>"$made/edges/log" ||
+            ended "$made/edges/log"
+    done
+}
+
 corpus() {
-    rm -rf "$made/smallest" && mkdir -p "$made/smallest" "$made/found/$1"
-    "$made/bin/$1" -merge=1 -use_counters=0 -max_len=1000 \
-        "$made/smallest" "fuzz/corpus/$1" "$made/seeds/$1" "$made/found/$1" >"$made/merge.log" 2>&1
-    rm -rf "fuzz/corpus/$1" && mv "$made/smallest" "fuzz/corpus/$1"
+    reached fuzz/corpus "$made/seeds" "$made/found"
+    # shellcheck disable=SC2086
+    fuzz/smallest.py "$made/edges" fuzz/corpus $targets
+}
+
+edges() {
+    local all
+    reached fuzz/corpus "$made/seeds"
+    all=$(size -A "$made/library.o" | awk '$1 == "__sancov_cntrs" { all += $2 } END { print all }')
+    for target in $targets 'all targets'; do
+        cat "$made/edges/"${target/all targets/*}.edges | cut -d' ' -f2- | tr ' ' '\n' | sort -u |
+            awk -v all="$all" -v target="$target" '$1 < all { reached++ } END { print target ": " reached " of " all }'
+    done
 }
 
 # shown FOLDER: whether the targets there end on an input of the corpus; the first that does.
@@ -112,13 +133,14 @@ wrong() {
     echo "$found of $all wrong libraries are shown"
 }
 
-for target in $targets; do mkdir -p "fuzz/corpus/$target"; done
+for target in $targets; do mkdir -p "fuzz/corpus/$target" "$made/found/$target"; done
 build
 case ${1:-all} in
 build) ;;
-corpus) for target in $targets; do corpus "$target"; done ;;
+corpus) corpus ;;
+edges) edges ;;
 wrong) wrong ;;
 all) for target in $targets; do echo "== $target" && fuzz "$target" 60; done ;;
 rule | take | sheet | judge | check | step) fuzz "$1" "${2:-60}" ;;
-*) sed -n '2,8s/^# \?//p' "$0" >&2 && exit 2 ;;
+*) sed -n '2,9s/^# \?//p' "$0" >&2 && exit 2 ;;
 esac
