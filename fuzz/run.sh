@@ -111,10 +111,11 @@ edges() {
     done
 }
 
-# shown FOLDER: whether the targets there end on an input of the corpus; the first that does.
+# shown FOLDER: whether the targets there end on an input of the corpus or a seed; the first that does.
 shown() {
     for target in $targets; do
-        "$1/$target" -runs=0 -timeout=5 -artifact_prefix="$1/" "fuzz/corpus/$target" >"$1/log" 2>&1 || { echo "$target"; return; }
+        "$1/$target" -runs=0 -timeout=5 -artifact_prefix="$1/" "fuzz/corpus/$target" "$made/seeds/$target" >"$1/log" 2>&1 ||
+            { echo "$target"; return; }
     done
     return 1
 }
