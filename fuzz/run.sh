@@ -63,7 +63,7 @@ build() {
         --target-dir "$made/cargo")
     link "$made/library.o" "$made/bin"
     link target/staticlib/liblibrary.a "$made/plain"
-    fuzz/seeds.py "$made/seeds"
+    rm -rf "$made/seeds" && fuzz/seeds.py "$made/seeds"
 }
 
 # fuzz TARGET SECONDS: prints executions, edges, size of the corpus, and how often each service gave each kind of answer. The inputs
@@ -84,13 +84,13 @@ ended() {
     exit 1
 }
 
-# reached FOLDER...: which edges each input of up to 1,000 bytes in FOLDER/TARGET reaches, for every target.
+# reached FOLDER...: which edges each input in FOLDER/TARGET reaches, for every target.
 reached() {
     mkdir -p "$made/edges"
     clang -O1 -fsanitize=address fuzz/edges.c "$made/library.o" "$rust_part" -o "$made/edges/targets"
     for target in $targets; do
         ln -f "$made/edges/targets" "$made/edges/$target"
-        find "${@/%//$target}" -type f -size -1001c -exec "$made/edges/$target" {} + >"$made/edges/$target.edges" 2>"$made/edges/log" ||
+        find "${@/%//$target}" -type f -exec "$made/edges/$target" {} + >"$made/edges/$target.edges" 2>"$made/edges/log" ||
             ended "$made/edges/log"
     done
 }

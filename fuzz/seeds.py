@@ -3,8 +3,8 @@
 
     fuzz/seeds.py FOLDER
 
-Files of up to 1 KB are taken. An input of several files has the lengths of all but the last in front, two bytes each, the higher
-first (src/parts.rs).
+Inputs of several files are made of files of up to 1 KB; they have the lengths of all but the last in front, two bytes each, the higher
+first (src/parts.rs). Inputs of one file may be longer, up to one byte more than a file may have; fuzzing itself cuts them.
 """
 import pathlib
 import sys
@@ -14,19 +14,18 @@ DATA = ROOT / "crates/read_files/data"
 LONGEST = 1024
 
 
-def small(paths):
-    """The contents of the files that are short enough, each once, in the order of their names."""
-    contents = [path.read_bytes() for path in sorted(paths) if path.is_file()]
-    return list(dict.fromkeys(content for content in contents if len(content) <= LONGEST))
-
-
 def join(*files):
     lengths = b"".join(len(file).to_bytes(2, "big") for file in files[:-1])
     return lengths + b"".join(files)
 
 
 def of_kind(kind):
-    return small([*DATA.glob(f"{kind}-*"), *ROOT.glob(f"examples/*/{kind}.txt")])
+    """The contents of all files of a kind, in the order of their names."""
+    return [path.read_bytes() for path in sorted([*DATA.glob(f"{kind}-*"), *ROOT.glob(f"examples/*/{kind}.txt")])]
+
+
+def small(files):
+    return [file for file in files if len(file) <= LONGEST]
 
 
 def examples(*names):
@@ -43,6 +42,7 @@ def seeds():
     yield "rule", rules
     yield "take", takes
     yield "sheet", sheets
+    rules, takes, sheets = small(rules), small(takes), small(sheets)
     pairs = [*examples("rule.txt", "take.txt"), *([other, take] for other in rules), *([rule, other] for other in takes)]
     yield "judge", [join(*pair) for pair in pairs]
     triples = [[*pair, sheet] for pair in pairs] + [[rule, take, other] for other in sheets]

@@ -1,5 +1,5 @@
 #!/usr/bin/env python3
-"""Chooses a small corpus: inputs that together reach every edge that any of those given reaches.
+"""Chooses a small corpus: inputs of up to 1,000 bytes that together reach every edge that any of those given reaches.
 
     fuzz/smallest.py FROM TO TARGET...
 
@@ -11,11 +11,17 @@ import pathlib
 import shutil
 import sys
 
+LONGEST = 1000
+
+
+def length(name):
+    return pathlib.Path(name).stat().st_size
+
 
 def chosen(edges, missing):
     """Names of inputs that reach all missing edges: always the one with most of them, among equals the shortest."""
     while missing:
-        best = max(sorted(edges), key=lambda name: (len(edges[name] & missing), -pathlib.Path(name).stat().st_size))
+        best = max(sorted(edges), key=lambda name: (len(edges[name] & missing), -length(name)))
         missing = missing - edges[best]
         yield best
 
@@ -27,7 +33,7 @@ def main():
     reached = set()
     for target in sys.argv[3:]:
         lines = [line.split() for line in (source / f"{target}.edges").read_text().splitlines()]
-        edges = {name: {int(number) for number in numbers} for name, *numbers in lines}
+        edges = {name: {int(number) for number in numbers} for name, *numbers in lines if length(name) <= LONGEST}
         missing = set().union(*edges.values()) - reached
         contents = [pathlib.Path(name).read_bytes() for name in chosen(edges, missing)]
         reached |= missing
