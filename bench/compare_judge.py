@@ -1,10 +1,10 @@
 #!/usr/bin/env python3
 """Runs two programs in the place of `judge` on random rules and takes, a part of them damaged, and holds their outputs together.
 
-    rt check judge && rustc -O -o target/bench-judge bench/judge.rs
-    bench/compare_judge.py [--runs N] [--seed S] [--small] target/bin/judge target/bench-judge
+    rt check judge && (cd bench && cargo build --release)
+    bench/compare_judge.py [--runs N] [--seed S] [--small] target/bin/judge target/bench/release/judge
 
-A program may have words behind it, as 'target/bench-judge --definition', which is slow on large takes. The files of a run that
+A program may have words behind it, as 'target/bench/release/judge --definition', which is slow on large takes. The files of a run that
 differs are left in target/different."""
 import argparse
 import collections

@@ -1,7 +1,7 @@
 #!/usr/bin/env python3
-"""Runs the program `normal` and bench/normal.rs on random rule files, a part of them damaged, and holds their outputs together.
+"""Runs the program `normal` and the plain-Rust one on random rule files, a part of them damaged, and holds their outputs together.
 
-    rt check normal && rustc -O -o target/bench-normal bench/normal.rs && bench/compare_normal.py [RUNS [SEED]]"""
+    rt check normal && (cd bench && cargo build --release) && bench/compare_normal.py [RUNS [SEED]]"""
 import os
 import random
 import subprocess
@@ -9,7 +9,7 @@ import sys
 import tempfile
 
 TARGET = os.path.join(os.path.dirname(os.path.abspath(__file__)), '..', 'target')
-PROGRAMS = [os.path.abspath(os.path.join(TARGET, p)) for p in ('bin/normal', 'bench-normal')]
+PROGRAMS = [os.path.abspath(os.path.join(TARGET, p)) for p in ('bin/normal', 'bench/release/normal')]
 SIGNALS = ['sig', 'nsig']
 OPERANDS = {'true': 0, 'false': 0, 'not': 1, 'next': 1, 'always': 1, 'ever': 1, 'and': 2, 'or': 2, 'weak': 2, 'until': 2,
             'release': 2, 'srelease': 2}

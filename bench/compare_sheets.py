@@ -1,12 +1,13 @@
 #!/usr/bin/env python3
-"""Runs two programs in the place of `sheet` and two in the place of `check` on random rules, takes and sheets, a part of them damaged,
+"""Runs two programs in the place of `sheet` and two in the place of `check_sheet` on random rules, takes and sheets, a part of them damaged,
 and holds their outputs together. It also holds that a made sheet passes, and that no sheet passes where `none` is answered.
 
-    rt check sheet check && rustc -O -o target/bench-sheet bench/sheet.rs && rustc -O -o target/bench-check bench/check.rs
-    bench/compare_sheets.py [--runs N] [--seed S] [--small] target/bin/sheet target/bin/check_sheet target/bench-sheet target/bench-check
+    rt check sheet check_sheet && (cd bench && cargo build --release)
+    bench/compare_sheets.py [--runs N] [--seed S] [--small] SHEET CHECK OTHER_SHEET OTHER_CHECK
 
-A program may have words behind it, as 'target/bench-check --definition', which is slow on large takes. The files of a run that
-differs are left in target/different.
+which are target/bin/sheet, target/bin/check_sheet, target/bench/release/sheet and target/bench/release/check. A program may
+have words behind it, as 'target/bench/release/check --definition', which is slow on large takes. The files of a run that differs are
+left in target/different.
 
 The sheets that are checked: the one made; one made for the same take with another loop, or with digits changed, in which often
 nothing fails at once; random digits; each also with digits turned, and as a damaged file."""

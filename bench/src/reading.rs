@@ -1,4 +1,4 @@
-// What the files have in common, for the plain-Rust programs of this folder: numbers, lines, counts, refusals.
+// What the files have in common: numbers, lines, counts, refusals.
 const MOST_BYTES: usize = 65536;
 
 /// Why a file is turned back: 01's number, and the line, from 1 (0 where no line is at fault).
@@ -84,12 +84,20 @@ impl<'a> Lines<'a> {
     /// A number from 1 to `most`; out of range it is refused for this reason.
     pub fn count(&mut self, key: &str, most: usize, reason: u32) -> Result<usize, Fault> {
         let n = number(self.value(key)?).ok_or(self.fault(2))?;
-        if (1..=most).contains(&n) { Ok(n) } else { Err(self.fault(reason)) }
+        if (1..=most).contains(&n) {
+            Ok(n)
+        } else {
+            Err(self.fault(reason))
+        }
     }
 
     /// Nothing follows the last line.
     pub fn end(mut self) -> Result<(), Fault> {
         self.line += 1;
-        if self.rest.is_empty() { Ok(()) } else { Err(self.fault(2)) }
+        if self.rest.is_empty() {
+            Ok(())
+        } else {
+            Err(self.fault(2))
+        }
     }
 }

@@ -1,7 +1,8 @@
 // The two ways of judging held together, on every small rule and take and on many random ones.
-use super::judge_by_definition;
-use crate::judging::{answer, judge};
-use crate::samples::{every_rule, every_take, take_text, Random};
+mod samples;
+
+use plain::judging::{answer, judge, judge_by_definition};
+use samples::{every_rule, every_take, take_text, Random};
 use std::collections::BTreeMap;
 
 /// Judges both ways, which must agree; the verdict.
@@ -40,13 +41,19 @@ fn run_random(seed: u64, runs: usize, most_rows: usize, most_cycles: usize) {
     for _ in 0..runs {
         let signals = 1 + random.below(4);
         let rule = random.rule(most_rows, signals);
-        let cells = { let n = 1 + random.below(most_cycles); random.cells(n, signals) };
+        let cells = {
+            let n = 1 + random.below(most_cycles);
+            random.cells(n, signals)
+        };
         let start = if random.below(2) == 0 { None } else { Some(random.below(cells.len())) };
         let verdict = both(&rule, &take_text(&cells, start));
         if start.is_none() {
             // what is kept holds however it goes on, what is broken breaks
             for _ in 0..3 {
-                let more = { let n = 1 + random.below(4); random.cells(n, signals) };
+                let more = {
+                    let n = 1 + random.below(4);
+                    random.cells(n, signals)
+                };
                 let longer = [&cells[..], &more[..]].concat();
                 let after = both(&rule, &take_text(&longer, Some(random.below(longer.len() - cells.len()) + cells.len())));
                 let must = match verdict.as_str() {

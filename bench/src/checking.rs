@@ -1,4 +1,4 @@
-// The work of the program `check`, for the plain-Rust programs of this folder: all monitors run along the take, cycle by cycle.
+// Checking sheets: all monitors run along the take, cycle by cycle.
 use crate::monitors::monitor;
 use crate::reading::Refusal;
 use crate::rule::{normal, read_rule, Row};
@@ -64,7 +64,8 @@ impl Finding {
     }
 }
 
-fn checked(rule: &[u8], take: &[u8], sheet: &[u8], check: Check) -> Result<Finding, Refusal> {
+/// The finding for the rule, the take and the sheet in these files.
+pub fn check_files(rule: &[u8], take: &[u8], sheet: &[u8], check: Check) -> Result<Finding, Refusal> {
     let rule = read_rule(rule).map_err(|fault| fault.of(1))?;
     let take = read_take(take).map_err(|fault| fault.of(2))?;
     let sheet = read_sheet(sheet).map_err(|fault| fault.of(3))?;
@@ -78,5 +79,5 @@ fn checked(rule: &[u8], take: &[u8], sheet: &[u8], check: Check) -> Result<Findi
 
 /// What the program `check` prints for these three files.
 pub fn answer(rule: &[u8], take: &[u8], sheet: &[u8], check: Check) -> String {
-    checked(rule, take, sheet, check).map_or_else(|refusal| refusal.text(), Finding::text)
+    check_files(rule, take, sheet, check).map_or_else(|refusal| refusal.text(), Finding::text)
 }

@@ -1,4 +1,4 @@
-// Take files, for the plain-Rust programs of this folder.
+// Take files.
 use crate::reading::{number, Fault, Lines, Refusal};
 use crate::rule::Rule;
 
@@ -19,7 +19,11 @@ impl Take {
 /// The digits of a value that must have so many.
 pub fn digits(value: &str, count: usize) -> Option<impl Iterator<Item = bool> + '_> {
     let form = value.len() == count && value.bytes().all(|b| matches!(b, b'0' | b'1'));
-    if form { Some(value.bytes().map(|b| b == b'1')) } else { None }
+    if form {
+        Some(value.bytes().map(|b| b == b'1'))
+    } else {
+        None
+    }
 }
 
 pub fn read_take(file: &[u8]) -> Result<Take, Fault> {
@@ -45,5 +49,9 @@ pub fn read_take(file: &[u8]) -> Result<Take, Fault> {
 
 /// A rule and a take go together when they have equal `signals`.
 pub fn go_together(rule: &Rule, take: &Take) -> Result<(), Refusal> {
-    if rule.signals == take.signals { Ok(()) } else { Err(Refusal { reason: 7, file: 0, line: 0 }) }
+    if rule.signals == take.signals {
+        Ok(())
+    } else {
+        Err(Refusal { reason: 7, file: 0, line: 0 })
+    }
 }

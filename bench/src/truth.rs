@@ -1,4 +1,4 @@
-// Truth of the rows of a normal form, for the plain-Rust programs of this folder: a table of rows and cycles, filled backward.
+// Truth of the rows of a normal form: a table of rows and cycles, filled backward.
 use crate::rule::{Kind, Row};
 use crate::take::Take;
 

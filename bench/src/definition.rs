@@ -1,5 +1,6 @@
 // Judging a second way, slow and close to the words: 01's meaning with its quantifiers over cycles, on the rule as it is written.
 // A looped take is run without end, an open one is read strongly, where a row under a negation is taken as its partner.
+use crate::judging::Verdict;
 use crate::rule::{Kind, Row, Rule};
 use crate::take::Take;
 use std::collections::{BTreeSet, HashMap};
@@ -32,15 +33,15 @@ pub fn truth<'a>(rule: &'a Rule, take: &'a Take) -> Box<dyn FnMut(usize, bool, u
     }
 }
 
-pub fn verdict(rule: &Rule, take: &Take) -> &'static str {
+pub fn verdict(rule: &Rule, take: &Take) -> Verdict {
     let mut truth = truth(rule, take);
     let root = rule.rows.len();
     match (take.loop_at, truth(root, false, 0), truth(root, true, 0)) {
-        (Some(_), true, false) => "holds",
-        (Some(_), false, true) => "breaks",
-        (None, true, false) => "kept",
-        (None, false, true) => "broken",
-        (None, false, false) => "open",
+        (Some(_), true, false) => Verdict::Holds,
+        (Some(_), false, true) => Verdict::Breaks,
+        (None, true, false) => Verdict::Kept,
+        (None, false, true) => Verdict::Broken,
+        (None, false, false) => Verdict::Open,
         _ => panic!("a rule and its negation"),
     }
 }
@@ -124,12 +125,8 @@ impl<'a> Strong<'a> {
             Kind::Next => i + 1 < end && self.holds(a, negated, i + 1),
             Kind::Always => false,
             Kind::Ever => (i..end).any(|j| self.holds(a, negated, j)),
-            Kind::Until | Kind::Weak => {
-                (i..end).any(|j| self.holds(b, negated, j) && (i..j).all(|h| self.holds(a, negated, h)))
-            }
-            Kind::Srelease | Kind::Release => {
-                (i..end).any(|j| self.holds(a, negated, j) && (i..=j).all(|h| self.holds(b, negated, h)))
-            }
+            Kind::Until | Kind::Weak => (i..end).any(|j| self.holds(b, negated, j) && (i..j).all(|h| self.holds(a, negated, h))),
+            Kind::Srelease | Kind::Release => (i..end).any(|j| self.holds(a, negated, j) && (i..=j).all(|h| self.holds(b, negated, h))),
         };
         self.known.insert((k, negated, i), found);
         found

@@ -1,16 +1,19 @@
 // Sheets held to the definitions: every sheet of small rules and takes; made, changed and random sheets of larger ones; and the
 // step service along them.
-use crate::checking::{answer, check, Finding};
-use crate::definition::verdict;
-use crate::making;
-use crate::making::{make, make_by_definition};
-use crate::monitors::step;
-use crate::reading::Refusal;
-use crate::rule::{normal, read_rule, Row, Rule};
-use crate::samples::{every_rule, every_take, take_text, Random};
-use crate::sheets::Sheet;
-use crate::take::{read_take, Take};
-use crate::unrolled;
+mod samples;
+
+use plain::checking::{answer, check, Finding};
+use plain::definition::verdict;
+use plain::judging::Verdict;
+use plain::making;
+use plain::making::{make, make_by_definition};
+use plain::monitors::step;
+use plain::reading::Refusal;
+use plain::rule::{normal, read_rule, Row, Rule};
+use plain::sheets::Sheet;
+use plain::take::{read_take, Take};
+use plain::unrolled;
+use samples::{every_rule, every_take, take_text, Random};
 use std::collections::BTreeMap;
 
 fn read(rule: &str, take: &str) -> (Rule, Take, Vec<Row>) {
@@ -34,12 +37,12 @@ fn find(rows: &[Row], take: &Take, bits: Vec<bool>, made: &Option<Vec<bool>>) ->
 /// A sheet is made exactly where the definition says so, has the digits that it says, and passes; the verdict and the sheet.
 fn made(rule: &Rule, take: &Take, rows: &[Row]) -> (&'static str, Option<Vec<bool>>) {
     let (verdict, made) = (verdict(rule, take), make(rule, take));
-    assert_eq!(made.is_some(), matches!(verdict, "holds" | "kept"));
+    assert_eq!(made.is_some(), matches!(verdict, Verdict::Holds | Verdict::Kept));
     assert_eq!(made, make_by_definition(rule, take));
     if let Some(bits) = &made {
         assert_eq!(find(rows, take, bits.clone(), &made), Finding::Passes);
     }
-    (verdict, made)
+    (verdict.word(), made)
 }
 
 /// Tries all sheets: one passes exactly where one is made. How many pass.
@@ -76,7 +79,10 @@ fn every_sheet_of_every_rule_of_three_rows_one_signal() {
 }
 
 fn random_take(random: &mut Random, signals: usize, most_cycles: usize) -> String {
-    let cells = { let n = 1 + random.below(most_cycles); random.cells(n, signals) };
+    let cells = {
+        let n = 1 + random.below(most_cycles);
+        random.cells(n, signals)
+    };
     let start = if random.below(3) == 0 { None } else { Some(random.below(cells.len())) };
     take_text(&cells, start)
 }

@@ -1,4 +1,4 @@
-// Rule files and the normal form, for the plain-Rust programs of this folder.
+// Rule files and the normal form.
 use crate::reading::{number, Fault, Lines};
 
 #[derive(Clone, Copy, Debug, PartialEq)]
@@ -57,7 +57,11 @@ impl Row {
     }
 
     pub fn operands(&self) -> &[usize] {
-        if KINDS[self.kind as usize].3 { self.numbers() } else { &[] }
+        if KINDS[self.kind as usize].3 {
+            self.numbers()
+        } else {
+            &[]
+        }
     }
 }
 

@@ -1,4 +1,4 @@
-// The monitors, for the plain-Rust programs of this folder: 01's table, and the step service.
+// The monitors: 01's table, and the step service.
 use crate::reading::Refusal;
 use crate::rule::{normal, read_rule, Kind, Row};
 

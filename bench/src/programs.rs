@@ -1,5 +1,4 @@
-// What the plain-Rust programs of this folder have in common: their words, and the files that they read.
-use std::convert::TryInto;
+// What the programs of this folder have in common: their words, and the files that they read.
 use std::io::{Read, Write};
 
 /// The file's first bytes, one more than a file may have; a file that cannot be opened or read counts as empty.
@@ -16,16 +15,13 @@ fn load(path: &str) -> Vec<u8> {
 pub type Work<const N: usize> = fn(&[Vec<u8>; N]) -> String;
 
 /// Does the work on the files of these names in the working folder, or on those that the program's words name, and prints its text.
-/// With `--definition` the work is done the slow way, with `--repeat N` it is done N times.
+/// With `--definition` the work is done the slow way.
 pub fn run<const N: usize>(names: [&str; N], usual: Work<N>, definition: Work<N>) {
     let mut work = usual;
-    let mut repeat = 1;
     let mut paths = Vec::new();
-    let mut words = std::env::args().skip(1);
-    while let Some(word) = words.next() {
+    for word in std::env::args().skip(1) {
         match word.as_str() {
             "--definition" => work = definition,
-            "--repeat" => repeat = words.next().and_then(|n| n.parse().ok()).expect("--repeat needs a number"),
             _ => paths.push(word),
         }
     }
@@ -34,10 +30,5 @@ pub fn run<const N: usize>(names: [&str; N], usual: Work<N>, definition: Work<N>
     }
     let paths: [String; N] = paths.try_into().expect("a path is needed for each file, or none");
     let files = paths.map(|path| load(&path));
-    let mut text = String::new();
-    for _ in 0..repeat {
-        text = work(std::hint::black_box(&files));
-        std::hint::black_box(&text);
-    }
-    std::io::stdout().write_all(text.as_bytes()).unwrap();
+    std::io::stdout().write_all(work(&files).as_bytes()).unwrap();
 }

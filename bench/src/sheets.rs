@@ -1,4 +1,4 @@
-// Sheet files, for the plain-Rust programs of this folder.
+// Sheet files.
 use crate::reading::{Fault, Lines};
 use crate::take::digits;
 

@@ -1,5 +1,6 @@
-// The work of the program `sheet`, for the plain-Rust programs of this folder.
+// Making sheets.
 use crate::definition;
+use crate::judging::Verdict;
 use crate::reading::Refusal;
 use crate::rule::{normal, read_rule, Rule};
 use crate::take::{go_together, read_take, Take};
@@ -9,12 +10,16 @@ use crate::truth::truths;
 pub fn make(rule: &Rule, take: &Take) -> Option<Vec<bool>> {
     let rows = normal(&rule.rows, false);
     let table = truths(&rows, take);
-    if table[(rows.len() - 1) * take.cycles] { Some(table) } else { None }
+    if table[(rows.len() - 1) * take.cycles] {
+        Some(table)
+    } else {
+        None
+    }
 }
 
 /// The same by the quantifiers of 01's meaning, on the rule as it is written; slow.
 pub fn make_by_definition(rule: &Rule, take: &Take) -> Option<Vec<bool>> {
-    if !matches!(definition::verdict(rule, take), "holds" | "kept") {
+    if !matches!(definition::verdict(rule, take), Verdict::Holds | Verdict::Kept) {
         return None;
     }
     let mut truth = definition::truth(rule, take);
@@ -39,14 +44,18 @@ fn sheet_text(active: &[bool], cycles: usize) -> String {
     text
 }
 
-fn made(rule: &[u8], take: &[u8], make: Make) -> Result<String, Refusal> {
+/// The sheet file of the rule and the take in these files, or none.
+pub fn make_files(rule: &[u8], take: &[u8], make: Make) -> Result<Option<String>, Refusal> {
     let rule = read_rule(rule).map_err(|fault| fault.of(1))?;
     let take = read_take(take).map_err(|fault| fault.of(2))?;
     go_together(&rule, &take)?;
-    Ok(make(&rule, &take).map_or("none\n".to_string(), |active| sheet_text(&active, take.cycles)))
+    Ok(make(&rule, &take).map(|active| sheet_text(&active, take.cycles)))
 }
 
 /// What the program `sheet` prints for these two files.
 pub fn answer(rule: &[u8], take: &[u8], make: Make) -> String {
-    made(rule, take, make).unwrap_or_else(|refusal| refusal.text())
+    match make_files(rule, take, make) {
+        Ok(sheet) => sheet.unwrap_or("none\n".to_string()),
+        Err(refusal) => refusal.text(),
+    }
 }

@@ -1,0 +1,114 @@
+//! Rules, takes and sheets of full size, and of a half and a quarter of it.
+//!
+//! A rule has 32 signals. A quarter of its rows are signals; the others go through all operators, read every row before them, and are
+//! reached under both signs, so that 64 rows give the 125 of the largest normal form. The loop begins in the middle. Nothing ends
+//! early: the last rows ask for something again and again, which the loop brings and no open take settles, so that there both
+//! normal forms are gone through; and 92 of the 125 rows are true at one cycle of the looped take and false at another.
+use plain::{checking, making, monitors, rule};
+
+const SIGNALS: usize = 32;
+const WORDS: [&str; 9] = ["weak", "ever", "srelease", "always", "until", "and", "next", "release", "or"];
+const UNARY: [&str; 3] = ["next", "ever", "always"];
+/// The step that is measured: the monitors have run along the take up to it.
+const STEP: usize = 20;
+
+/// How many rows the rule has and how many cycles the take.
+#[derive(Clone, Copy, Debug, PartialEq)]
+pub struct Size {
+    pub rows: usize,
+    pub cycles: usize,
+}
+
+/// What the services are given. `other` is the rule with 31 signals: it is read to its end, and then refused beside a take with 32.
+#[derive(Clone)]
+pub struct Inputs {
+    pub rule: Vec<u8>,
+    pub other: Vec<u8>,
+    pub looped: Vec<u8>,
+    pub open: Vec<u8>,
+    pub sheet: Vec<u8>,
+    pub pendings: Vec<u8>,
+    pub activators: Vec<u8>,
+    pub signals: Vec<u8>,
+}
+
+impl Inputs {
+    pub fn new(size: Size) -> Inputs {
+        let cycles = take_cycles(size.cycles);
+        let text = rule_text(&rule_rows(size.rows));
+        let other = text.replace("signals=32\n", "signals=31\n").replace("sig 32\n", "sig 31\n").into_bytes();
+        let (rule, looped) = (text.into_bytes(), take_text(&cycles, &(size.cycles / 2).to_string()));
+        let sheet = making::make_files(&rule, &looped, making::make).unwrap().expect("the rule holds").into_bytes();
+        let found = checking::check_files(&rule, &looped, &sheet, checking::check);
+        assert_eq!(found, Ok(checking::Finding::Passes));
+        let (pendings, activators) = run(&rule, &cycles, &sheet);
+        let open = take_text(&cycles, "none");
+        Inputs { rule, other, looped, open, sheet, pendings, activators, signals: cycles[STEP].clone().into_bytes() }
+    }
+}
+
+fn rule_rows(rows: usize) -> Vec<String> {
+    let leaves = rows / 4;
+    let leaf = |i: usize| format!("{} {}", ["nsig", "sig"][i % 2], 1 + i * (SIGNALS - 1) / (leaves - 1));
+    let mut table: Vec<String> = (0..leaves).map(leaf).collect();
+    let mut unread: Vec<usize> = (1..=leaves).collect();
+    let operators = rows - leaves - 4;
+    for j in 0..operators {
+        let word = WORDS[j % WORDS.len()];
+        let (a, mut b) = (unread.remove(0), 1 + (5 * j + 3) % leaves);
+        // one row is left unread at the end
+        if !UNARY.contains(&word) && (unread.len() * operators) as isize > (leaves as isize - 1) * (operators as isize - j as isize - 2) {
+            b = if unread.is_empty() { b } else { unread.remove(0) };
+        }
+        table.push(if UNARY.contains(&word) { format!("{word} {a}") } else { format!("{word} {b} {a}") });
+        unread.push(table.len());
+    }
+    assert_eq!(unread.len(), 1);
+    table.extend([
+        format!("ever {}", rows - 4),
+        format!("always {}", rows - 3),
+        format!("not {}", rows - 2),
+        format!("release {} {}", rows - 1, rows - 2),
+    ]);
+    table
+}
+
+fn rule_text(rows: &[String]) -> String {
+    let lines: String = (1..).zip(rows).map(|(k, row)| format!("r{k}={row}\n")).collect();
+    let text = format!("format=1\nsignals={SIGNALS}\nrows={}\n{lines}", rows.len());
+    let form = rule::normal(&rule::read_rule(text.as_bytes()).unwrap().rows, false);
+    assert_eq!(form.len(), 2 * rows.len() - 3);
+    text
+}
+
+/// A digit for each signal in each cycle: most signals are mostly on, every fourth mostly off.
+fn take_cycles(count: usize) -> Vec<String> {
+    let mut state = 1u64;
+    let mut digit = |s: usize| {
+        state = state.wrapping_mul(6364136223846793005).wrapping_add(1442695040888963407);
+        if (state >> 33) % 100 < if s % 4 > 0 { 85 } else { 15 } {
+            '1'
+        } else {
+            '0'
+        }
+    };
+    (0..count).map(|_| (0..SIGNALS).map(&mut digit).collect()).collect()
+}
+
+fn take_text(cycles: &[String], start: &str) -> Vec<u8> {
+    let lines: String = cycles.iter().enumerate().map(|(i, digits)| format!("c{i}={digits}\n")).collect();
+    format!("format=1\nsignals={SIGNALS}\ncycles={}\nloop={start}\n{lines}", cycles.len()).into_bytes()
+}
+
+/// The pendings before the measured step and the activators at it.
+fn run(rule: &[u8], cycles: &[String], sheet: &[u8]) -> (Vec<u8>, Vec<u8>) {
+    let lines: Vec<&[u8]> = sheet.split(|&b| b == b'\n').filter(|line| line.starts_with(b"z")).collect();
+    let column = |i: usize| -> Vec<u8> { lines.iter().map(|line| line[line.len() - cycles.len() + i]).collect() };
+    let mut pendings = vec![b'0'; lines.len()];
+    let mut out = vec![0; 3 * lines.len()];
+    for (i, signals) in cycles[..STEP].iter().enumerate() {
+        monitors::step(rule, &pendings, &column(i), signals.as_bytes(), &mut out).unwrap();
+        pendings.copy_from_slice(&out[2 * lines.len()..]);
+    }
+    (pendings, column(STEP))
+}

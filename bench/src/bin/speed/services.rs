@@ -1,0 +1,191 @@
+//! The services, and each implementation called alike: the answer as one number, as the library gives it in C.
+use crate::inputs::Inputs;
+use plain::{checking, judging, making, monitors, normal, reading, rule, sheets, take};
+
+#[derive(Clone, Copy, Debug, PartialEq)]
+pub enum Service {
+    ReadRule,
+    ReadTake,
+    ReadSheet,
+    Normal,
+    JudgeLooped,
+    JudgeOpen,
+    Step,
+    MakeSheet,
+    CheckSheet,
+}
+use Service::*;
+
+impl Service {
+    pub const ALL: [Service; 9] = [ReadRule, ReadTake, ReadSheet, Normal, JudgeLooped, JudgeOpen, Step, MakeSheet, CheckSheet];
+
+    pub fn name(self) -> &'static str {
+        match self {
+            ReadRule => "read a rule",
+            ReadTake => "read a take",
+            ReadSheet => "read a sheet",
+            Normal => "normal form",
+            JudgeLooped => "judge, looped",
+            JudgeOpen => "judge, open",
+            Step => "step",
+            MakeSheet => "make a sheet",
+            CheckSheet => "check a sheet",
+        }
+    }
+
+    /// Whether the cost may depend on the rule's rows, and on the take's cycles.
+    pub fn grows_in(self) -> (bool, bool) {
+        (self != ReadTake, !matches!(self, ReadRule | Normal | Step))
+    }
+
+    /// The call that reads what this one reads and does no more.
+    pub fn reading(self) -> Option<Call> {
+        match self {
+            ReadRule | ReadTake | ReadSheet => None,
+            Normal | Step => Some(Call { service: ReadRule, only_read: false }),
+            JudgeLooped | JudgeOpen | MakeSheet | CheckSheet => Some(Call { service: self, only_read: true }),
+        }
+    }
+}
+
+/// A call of a service. With `only_read` rule and take differ in `signals`: all files are read to their ends, and the call is refused.
+#[derive(Clone, Copy, Debug, PartialEq)]
+pub struct Call {
+    pub service: Service,
+    pub only_read: bool,
+}
+
+#[derive(Clone, Copy, Debug, PartialEq)]
+pub enum Implementation {
+    Proved,
+    Plain,
+    Second,
+    BitParallel,
+}
+
+impl Implementation {
+    pub const ALL: [Implementation; 4] =
+        [Implementation::Proved, Implementation::Plain, Implementation::Second, Implementation::BitParallel];
+
+    pub fn offers(self, service: Service) -> bool {
+        self != Implementation::BitParallel || matches!(service, JudgeLooped | JudgeOpen)
+    }
+
+    /// Makes the call. What is written stands at the front of `out`, and the answer is its length.
+    pub fn call(self, call: Call, given: &Inputs, out: &mut Vec<u8>) -> u64 {
+        let rule = if call.only_read { &given.other } else { &given.rule };
+        match self {
+            Implementation::Proved => proved(call.service, rule, given, out),
+            Implementation::Plain => plain(call.service, rule, given, out),
+            Implementation::Second => second(call.service, rule, given, out),
+            Implementation::BitParallel => bit_parallel(call.service, rule, given),
+        }
+    }
+}
+
+fn refused(reason: u64, file: u64, line: u64) -> u64 {
+    1 << 63 | line << 16 | file << 8 | reason
+}
+
+fn found(finding: u64, row: u64, cycle: u64) -> u64 {
+    cycle << 16 | row << 8 | finding
+}
+
+fn proved(service: Service, rule: &[u8], given: &Inputs, out: &mut [u8]) -> u64 {
+    use citronhelm as c;
+    let read = |(): ()| 0;
+    let length = |length: usize| length as u64;
+    let verdict = |verdict: c::Verdict| verdict as u64 + 1;
+    let finding = |finding| match finding {
+        c::Finding::Root => found(1, 0, 0),
+        c::Finding::Failed { row, cycle } => found(2, row.into(), cycle.into()),
+        c::Finding::Starved { row } => found(3, row.into(), 0),
+        c::Finding::Pending { row } => found(4, row.into(), 0),
+        c::Finding::Passes => found(5, 0, 0),
+    };
+    let answer = match service {
+        ReadRule => c::read_rule(rule).map(read),
+        ReadTake => c::read_take(&given.looped).map(read),
+        ReadSheet => c::read_sheet(&given.sheet).map(read),
+        Normal => c::normal(rule, false, out).map(length),
+        JudgeLooped => c::judge_looped(rule, &given.looped).map(verdict),
+        JudgeOpen => c::judge_open(rule, &given.open).map(verdict),
+        Step => c::step(rule, &given.pendings, &given.activators, &given.signals, out).map(length),
+        MakeSheet => c::make_sheet(rule, &given.looped, out).map(|made| made.map_or(0, length)),
+        CheckSheet => c::check_sheet(rule, &given.looped, &given.sheet).map(finding),
+    };
+    answer.unwrap_or_else(|r| refused(r.reason.number().into(), r.file.map_or(0, c::File::number).into(), r.line.into()))
+}
+
+/// The plain-Rust version makes its outputs, and they take the place of `out`; a step it writes as the others do.
+fn plain(service: Service, rule: &[u8], given: &Inputs, out: &mut Vec<u8>) -> u64 {
+    let of = |file: u32| move |fault: reading::Fault| fault.of(file);
+    let verdict = |verdict: judging::Verdict| verdict as u64 + 1;
+    let finding = |finding| match finding {
+        checking::Finding::Root => found(1, 0, 0),
+        checking::Finding::Failed { row, cycle } => found(2, row as u64, cycle as u64),
+        checking::Finding::Starved { row } => found(3, row as u64, 0),
+        checking::Finding::Pending { row } => found(4, row as u64, 0),
+        checking::Finding::Passes => found(5, 0, 0),
+    };
+    let mut put = |bytes| {
+        *out = bytes;
+        out.len() as u64
+    };
+    let answer = match service {
+        ReadRule => rule::read_rule(rule).map(kept).map_err(of(1)),
+        ReadTake => take::read_take(&given.looped).map(kept).map_err(of(2)),
+        ReadSheet => sheets::read_sheet(&given.sheet).map(kept).map_err(of(3)),
+        Normal => normal::normal_file(rule, false).map(put),
+        JudgeLooped => judging::judge_files(rule, &given.looped, true).map(verdict),
+        JudgeOpen => judging::judge_files(rule, &given.open, false).map(verdict),
+        Step => monitors::step(rule, &given.pendings, &given.activators, &given.signals, out).map(|length| length as u64),
+        MakeSheet => making::make_files(rule, &given.looped, making::make).map(|made| made.map_or(0, |text| put(text.into_bytes()))),
+        CheckSheet => checking::check_files(rule, &given.looped, &given.sheet, checking::check).map(finding),
+    };
+    answer.unwrap_or_else(|r| refused(r.reason.into(), r.file.into(), r.line as u64))
+}
+
+/// A table that was read: it must have been made in full.
+fn kept<T>(table: T) -> u64 {
+    std::hint::black_box(&table);
+    0
+}
+
+fn second(service: Service, rule: &[u8], given: &Inputs, out: &mut [u8]) -> u64 {
+    let read = |(): ()| 0;
+    let length = |length: usize| length as u64;
+    let finding = |finding| match finding {
+        second::Finding::Root => found(1, 0, 0),
+        second::Finding::Failed { row, cycle } => found(2, row as u64, cycle as u64),
+        second::Finding::Starved { row } => found(3, row as u64, 0),
+        second::Finding::Pending { row } => found(4, row as u64, 0),
+        second::Finding::Passes => found(5, 0, 0),
+    };
+    let answer = match service {
+        ReadRule => second::read_rule(rule).map(read),
+        ReadTake => second::read_take(&given.looped).map(read),
+        ReadSheet => second::read_sheet(&given.sheet).map(read),
+        Normal => second::normal(rule, false, out).map(length),
+        JudgeLooped => second::judge_looped(rule, &given.looped).map(by_number),
+        JudgeOpen => second::judge_open(rule, &given.open).map(by_number),
+        Step => second::step(rule, &given.pendings, &given.activators, &given.signals, out).map(length),
+        MakeSheet => second::make_sheet(rule, &given.looped, out).map(|made| made.map_or(0, length)),
+        CheckSheet => second::check_sheet(rule, &given.looped, &given.sheet).map(finding),
+    };
+    answer.unwrap_or_else(turned_back)
+}
+
+/// The bit-parallel judge takes both kinds of takes.
+fn bit_parallel(service: Service, rule: &[u8], given: &Inputs) -> u64 {
+    let take = if service == JudgeLooped { &given.looped } else { &given.open };
+    bitparallel::judge(rule, take).map_or_else(turned_back, by_number)
+}
+
+fn by_number(verdict: second::Verdict) -> u64 {
+    verdict as u64 + 1
+}
+
+fn turned_back(refusal: second::Refusal) -> u64 {
+    refused(refusal.number.into(), refusal.file.into(), refusal.line.into())
+}

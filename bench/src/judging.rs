@@ -1,0 +1,82 @@
+// Judging.
+use crate::definition;
+use crate::reading::Refusal;
+use crate::rule::{normal, read_rule, Row, Rule};
+use crate::take::{go_together, read_take, Take};
+use crate::truth::truths;
+
+#[derive(Clone, Copy, Debug, PartialEq)]
+pub enum Verdict {
+    Holds,
+    Breaks,
+    Kept,
+    Broken,
+    Open,
+}
+
+impl Verdict {
+    pub fn word(self) -> &'static str {
+        match self {
+            Verdict::Holds => "holds",
+            Verdict::Breaks => "breaks",
+            Verdict::Kept => "kept",
+            Verdict::Broken => "broken",
+            Verdict::Open => "open",
+        }
+    }
+}
+
+/// Whether the root of a normal form is true at cycle 0: on the endless repetition of a looped take, strongly on an open one.
+fn root_holds(rows: &[Row], take: &Take) -> bool {
+    truths(rows, take)[(rows.len() - 1) * take.cycles]
+}
+
+/// The rows of the normal form, and the verdict.
+pub fn judge(rule: &Rule, take: &Take) -> (usize, Verdict) {
+    let plain = normal(&rule.rows, false);
+    let kept = root_holds(&plain, take);
+    let verdict = match (take.loop_at, kept) {
+        (Some(_), true) => Verdict::Holds,
+        (Some(_), false) => Verdict::Breaks,
+        (None, true) => Verdict::Kept,
+        (None, false) if root_holds(&normal(&rule.rows, true), take) => Verdict::Broken,
+        (None, false) => Verdict::Open,
+    };
+    (plain.len(), verdict)
+}
+
+/// The same by the quantifiers of 01's meaning, on the rule as it is written; slow.
+pub fn judge_by_definition(rule: &Rule, take: &Take) -> (usize, Verdict) {
+    (definition::rows_reached(rule).len(), definition::verdict(rule, take))
+}
+
+/// A way of judging: how many rows the normal form has, and the verdict.
+pub type Judge = fn(&Rule, &Take) -> (usize, Verdict);
+
+fn read_pair(rule: &[u8], take: &[u8]) -> Result<(Rule, Take), Refusal> {
+    let rule = read_rule(rule).map_err(|fault| fault.of(1))?;
+    let take = read_take(take).map_err(|fault| fault.of(2))?;
+    go_together(&rule, &take)?;
+    Ok((rule, take))
+}
+
+/// The verdict on a rule and a looped take, or on a rule and an open one.
+pub fn judge_files(rule: &[u8], take: &[u8], looped: bool) -> Result<Verdict, Refusal> {
+    let (rule, take) = read_pair(rule, take)?;
+    if take.loop_at.is_some() != looped {
+        return Err(Refusal { reason: 8, file: 0, line: 0 });
+    }
+    Ok(judge(&rule, &take).1)
+}
+
+fn judged(rule: &[u8], take: &[u8], judge: Judge) -> Result<String, Refusal> {
+    let (rule, take) = read_pair(rule, take)?;
+    let (rows, verdict) = judge(&rule, &take);
+    let end = take.loop_at.map_or("none".to_string(), |start| start.to_string());
+    Ok(format!("signals={}\nrows={rows}\ncycles={}\nloop={end}\nverdict={}\n", rule.signals, take.cycles, verdict.word()))
+}
+
+/// What the program `judge` prints for these two files.
+pub fn answer(rule: &[u8], take: &[u8], judge: Judge) -> String {
+    judged(rule, take, judge).unwrap_or_else(|refusal| refusal.text())
+}
