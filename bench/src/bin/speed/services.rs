@@ -133,9 +133,9 @@ fn plain(service: Service, rule: &[u8], given: &Inputs, out: &mut Vec<u8>) -> u6
         out.len() as u64
     };
     let answer = match service {
-        ReadRule => rule::read_rule(rule).map(kept).map_err(of(1)),
-        ReadTake => take::read_take(&given.looped).map(kept).map_err(of(2)),
-        ReadSheet => sheets::read_sheet(&given.sheet).map(kept).map_err(of(3)),
+        ReadRule => rule::read_rule(rule).map(used).map_err(of(1)),
+        ReadTake => take::read_take(&given.looped).map(used).map_err(of(2)),
+        ReadSheet => sheets::read_sheet(&given.sheet).map(used).map_err(of(3)),
         Normal => normal::normal_file(rule, false).map(put),
         JudgeLooped => judging::judge_files(rule, &given.looped, true).map(verdict),
         JudgeOpen => judging::judge_files(rule, &given.open, false).map(verdict),
@@ -146,8 +146,8 @@ fn plain(service: Service, rule: &[u8], given: &Inputs, out: &mut Vec<u8>) -> u6
     answer.unwrap_or_else(|r| refused(r.reason.into(), r.file.into(), r.line as u64))
 }
 
-/// A table that was read: it must have been made in full.
-fn kept<T>(table: T) -> u64 {
+/// A table that was read is used, so that no part of its making is optimised away.
+fn used<T>(table: T) -> u64 {
     std::hint::black_box(&table);
     0
 }

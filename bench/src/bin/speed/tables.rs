@@ -2,7 +2,7 @@
 use crate::inputs::Size;
 use crate::services::{Call, Implementation, Service};
 use crate::timing::Times;
-use Implementation::{BitParallel, Plain, Proved, Second};
+use Implementation::{BitParallel, Plain, Proved};
 
 /// What was measured of one call at one size.
 pub struct Measured<T> {
@@ -56,16 +56,12 @@ impl<T> Figures<'_, T> {
     }
 }
 
-fn micro(value: Option<f64>) -> String {
-    value.map_or(String::new(), |us| match us {
+fn micro(us: f64) -> String {
+    match us {
         _ if us < 10.0 => format!("{us:.2}"),
         _ if us < 1000.0 => format!("{us:.1}"),
         _ => thousands(us),
-    })
-}
-
-fn ratio(value: Option<f64>) -> String {
-    value.map_or(String::new(), |ratio| format!("{ratio:.2}"))
+    }
 }
 
 fn thousands(value: f64) -> String {
@@ -74,47 +70,53 @@ fn thousands(value: f64) -> String {
     groups.join(",")
 }
 
-fn head(columns: &[&str]) {
-    println!("| {} |", columns.join(" | "));
+fn list(figures: impl Iterator<Item = f64>, told: fn(f64) -> String) -> String {
+    figures.map(told).collect::<Vec<_>>().join("; ")
+}
+
+fn print_line(cells: &[String]) {
+    println!("| {} |", cells.join(" | "));
+}
+
+fn print_head(columns: &[String]) {
+    print_line(columns);
     println!("|{}", "---|".repeat(columns.len()));
 }
 
-/// Best and median times at full size.
+/// A line for each service, with the figures of each implementation at one size and the library's ratios to two of them.
+fn print_compared<T>(title: &str, figures: &[Figures<T>], size: Size, told: fn(f64) -> String) {
+    let columns = [title, "proved", "plain Rust", "second", "bit-parallel", "proved to plain Rust", "proved to bit-parallel"];
+    print_head(&columns.map(str::to_string));
+    for line in Line::all() {
+        let mut cells = vec![line.name()];
+        cells.extend(Implementation::ALL.map(|by| list(figures.iter().filter_map(|f| f.of(size, by, line)), told)));
+        let ratio = |ratio: f64| format!("{ratio:.2}");
+        cells.extend([Plain, BitParallel].map(|to| list(figures.iter().filter_map(|f| f.ratio(size, line, to)), ratio)));
+        print_line(&cells);
+    }
+}
+
+/// Best and median times at one size.
 pub fn print_times(all: &[Measured<Times>], size: Size) {
     let best = Figures { all, pick: |times| times.best };
     let median = Figures { all, pick: |times| times.median };
-    head(&["µs a call, best; median", "proved", "plain Rust", "second", "bit-parallel", "proved to plain Rust", "proved to bit-parallel"]);
-    for line in Line::all() {
-        let both = |by| [micro(best.of(size, by, line)), micro(median.of(size, by, line))].join("; ");
-        let ratios = |to| [ratio(best.ratio(size, line, to)), ratio(median.ratio(size, line, to))].join("; ");
-        let told = |by: Implementation, text: String| if by.offers(line.service) { text } else { String::new() };
-        let cells = [both(Proved), both(Plain), both(Second), told(BitParallel, both(BitParallel))];
-        println!("| {} | {} | {} | {} |", line.name(), cells.join(" | "), ratios(Plain), told(BitParallel, ratios(BitParallel)));
-    }
+    print_compared("µs a call, best; median", &[best, median], size, micro);
+}
+
+/// Instructions at one size.
+pub fn print_counts(all: &[Measured<f64>], size: Size) {
+    print_compared("instructions a call", &[Figures { all, pick: |count| *count }], size, thousands);
 }
 
 /// Best times at each size.
 pub fn print_growth(all: &[Measured<Times>], sizes: &[Size]) {
     let best = Figures { all, pick: |times| times.best };
-    let names: Vec<String> = sizes.iter().map(|size| format!("{} rows, {} cycles", size.rows, size.cycles)).collect();
-    head(&[&["µs a call, best", "by"], &names.iter().map(String::as_str).collect::<Vec<_>>()[..]].concat());
+    let mut columns = vec!["µs a call, best: proved; plain Rust; second; bit-parallel".to_string()];
+    columns.extend(sizes.iter().map(|size| format!("{} rows, {} cycles", size.rows, size.cycles)));
+    print_head(&columns);
     for line in Line::all() {
-        for (by, name) in [(Proved, "proved"), (Plain, "plain Rust"), (Second, "second"), (BitParallel, "bit-parallel")] {
-            if by.offers(line.service) {
-                let cells: Vec<String> = sizes.iter().map(|&size| micro(best.of(size, by, line))).collect();
-                println!("| {} | {name} | {} |", line.name(), cells.join(" | "));
-            }
-        }
-    }
-}
-
-/// Instructions at full size.
-pub fn print_counts(all: &[Measured<f64>], size: Size) {
-    let counts = Figures { all, pick: |count| *count };
-    head(&["instructions a call", "proved", "plain Rust", "second", "bit-parallel", "proved to plain Rust", "proved to bit-parallel"]);
-    for line in Line::all() {
-        let cells = [Proved, Plain, Second, BitParallel].map(|by| counts.of(size, by, line).map_or(String::new(), thousands));
-        let ratios = [Plain, BitParallel].map(|to| ratio(counts.ratio(size, line, to)));
-        println!("| {} | {} | {} |", line.name(), cells.join(" | "), ratios.join(" | "));
+        let mut cells = vec![line.name()];
+        cells.extend(sizes.iter().map(|&size| list(Implementation::ALL.into_iter().filter_map(|by| best.of(size, by, line)), micro)));
+        print_line(&cells);
     }
 }
