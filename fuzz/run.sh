@@ -71,7 +71,7 @@ build() {
 fuzz() {
     mkdir -p fuzz/findings
     local inputs=("-artifact_prefix=fuzz/findings/$1-" "$made/found/$1" "fuzz/corpus/$1" "$made/seeds/$1") log=$made/$1.log
-    "$made/bin/$1" -max_total_time="$2" -max_len=1500 -timeout=20 -dict=fuzz/words.dict -print_final_stats=1 "${inputs[@]}" >"$log" 2>&1 ||
+    "$made/bin/$1" -max_total_time="$2" -max_len=3000 -timeout=20 -dict=fuzz/words.dict -print_final_stats=1 "${inputs[@]}" >"$log" 2>&1 ||
         ended "$log"
     grep -E '^#[0-9]+.(INITED|DONE)|^stat::|^tally:' "$log"
     "$made/plain/$1" -runs=0 "${inputs[@]}" >"$log.plain" 2>&1 || ended "$log.plain"

@@ -3,15 +3,17 @@
 
     fuzz/seeds.py FOLDER
 
-Inputs of several files are made of files of up to 1 KB; they have the lengths of all but the last in front, two bytes each, the higher
-first (src/parts.rs). Inputs of one file may be longer, up to one byte more than a file may have; fuzzing itself cuts them.
+Inputs of several files are made of files of up to 1 KB, and of long takes; they have the lengths of all but the last in front, two bytes
+each, the higher first (src/parts.rs). Inputs of one file may be longer, up to one byte more than a file may have; fuzzing cuts them.
 """
 import pathlib
+import random
 import sys
 
 ROOT = pathlib.Path(__file__).resolve().parent.parent
 DATA = ROOT / "crates/read_files/data"
 LONGEST = 1024
+ROWS = ["not 1", "and 1 2", "or 1 2", "next 1", "always 1", "ever 1", "weak 1 2", "until 1 2", "release 2 1", "srelease 2 1"]
 
 
 def join(*files):
@@ -36,16 +38,38 @@ def examples(*names):
             yield [path.read_bytes() for path in paths]
 
 
+def long_pairs():
+    """Long takes with few changes, since the library works on 64 cycles at a time, each with a rule that always holds: so the sheet
+    made shows the truth of the row at every cycle."""
+    chance = random.Random(1)
+    for row in ROWS:
+        for count, loop in ((200, "none"), (105, 3), (200, 70)):
+            rule = f"format=1\nsignals=2\nrows=5\nr1=sig 1\nr2=sig 2\nr3={row}\nr4=true\nr5=or 3 4\n"
+            cycles = "".join(f"c{n}={int(chance.random() < 0.97)}{int(chance.random() < 0.03)}\n" for n in range(count))
+            yield [rule.encode(), f"format=1\nsignals=2\ncycles={count}\nloop={loop}\n{cycles}".encode()]
+
+
+def limits():
+    """Rule, take and sheet with the most signals and the most cycles."""
+    for signals, cycles in ((32, 1), (1, 256)):
+        for loop in ("none", cycles - 1):
+            lines = "".join(f"c{n}={'1' * signals}\n" for n in range(cycles))
+            rule = f"format=1\nsignals={signals}\nrows=1\nr1=sig {signals}\n"
+            take = f"format=1\nsignals={signals}\ncycles={cycles}\nloop={loop}\n{lines}"
+            sheet = f"format=1\nrows=1\ncycles={cycles}\nz1={'1' * cycles}\n"
+            yield [rule.encode(), take.encode(), sheet.encode()]
+
+
 def seeds():
     rules, takes, sheets = of_kind("rule"), of_kind("take"), of_kind("sheet")
     rule, take, sheet = [(DATA / name).read_bytes() for name in ("rule-a", "take-a", "sheet-a")]
-    yield "rule", rules
-    yield "take", takes
-    yield "sheet", sheets
+    for kind, files, file in (("rule", rules, rule), ("take", takes, take), ("sheet", sheets, sheet)):
+        yield kind, files + [file.ljust(length, b"\n") for length in (65_536, 65_537)]
     rules, takes, sheets = small(rules), small(takes), small(sheets)
     pairs = [*examples("rule.txt", "take.txt"), *([other, take] for other in rules), *([rule, other] for other in takes)]
+    pairs += [*long_pairs(), *(triple[:2] for triple in limits())]
     yield "judge", [join(*pair) for pair in pairs]
-    triples = [[*pair, sheet] for pair in pairs] + [[rule, take, other] for other in sheets]
+    triples = [[*pair, sheet] for pair in pairs] + [[rule, take, other] for other in sheets] + list(limits())
     yield "check", [join(*triple) for triple in [*examples("rule.txt", "take.txt", "sheet.txt"), *triples]]
     yield "step", [join(other, b"00000", b"11111", b"10") for other in rules]
 
