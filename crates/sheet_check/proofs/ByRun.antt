@@ -20,15 +20,15 @@ use Rattle.monitors.specs.Monitor.{rowMonitor}
 use Rattle.monitors.specs.Sheet.{activatorAt}
 use Rattle.sheet_check.specs.declared.finding.Finding.{Finding}
 use Rattle.sheet_check.specs.declared.finding.Finding.the-variants.{Root}
-use Rattle.sheet_check.specs.declared.row.Course.{Course}
-use Rattle.sheet_check.specs.declared.row.Reads.{Reads}
-use Rattle.sheet_check.specs.declared.row.RowRun.{RowRun}
+use Rattle.row_run.specs.declared.row.Course.{Course}
+use Rattle.row_run.specs.declared.row.Reads.{Reads}
+use Rattle.row_run.specs.declared.row.RowRun.{RowRun}
 use Rattle.sheet_check.specs.declared.survey.Survey.{Survey}
-use Rattle.sheet_check.specs.RowRun.{RowRunOf}
+use Rattle.row_run.specs.RowRun.{RowRunOf}
 use Rattle.sheet_check.specs.Survey.{noted, SurveyTo}
 use Rattle.sheet_check.specs.Finding.{FindingOf}
 use Rattle.sheet_check.specs.Conclusion.{courseOf, concluded}
-use Rattle.sheet_check.proofs.RunLoop.{RunTo, run-start, run-fails, run-goes, run-ends}
+use Rattle.row_run.proofs.RunLoop.{RunTo, run-start, run-fails, run-goes, run-ends}
 use Rattle.sheet_check.proofs.SurveyLoop.{ReadsOf, reads-of, survey-start, survey-next}
 use Rattle.sheet_check.proofs.Findings.{root-only, finding-by}
 use Rattle.sheet_check.proofs.Conclusions.{concluded-finding}

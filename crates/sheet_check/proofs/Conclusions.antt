@@ -27,7 +27,7 @@ use Rattle.monitors.proofs.Periods.{lasso-never-fails, lasso-accepts, lasso-sta
 use Rattle.sheet_check.specs.declared.finding.Finding.{Finding}
 use Rattle.sheet_check.specs.declared.finding.Finding.the-variants.{Failed, Passes}
 use Rattle.sheet_check.specs.declared.survey.Survey.{Survey}
-use Rattle.sheet_check.specs.RowRun.{CourseOf}
+use Rattle.row_run.specs.RowRun.{CourseOf}
 use Rattle.sheet_check.specs.Survey.{LowestOf, said, waiting, Accepts, Starves, SurveyTo}
 use Rattle.sheet_check.specs.Finding.{RootSet, NoneFails, Returns, FailsFirst, StarvesFirst, PendsFirst, FindingOf}
 use Rattle.sheet_check.specs.Conclusion.{courseOf, concluded}

@@ -1,6 +1,3 @@
-pub mod WordLaws
-pub mod WordLoop
-pub mod RunLoop
 pub mod SurveyLoop
 pub mod Findings
 pub mod Conclusions

@@ -25,11 +25,11 @@ use Rattle.monitors.specs.declared.State.{State}
 use Rattle.monitors.specs.Monitor.{rowMonitor, monitor}
 use Rattle.monitors.specs.Run.{pendingBefore}
 use Rattle.monitors.specs.Sheet.{activatorAt}
-use Rattle.sheet_check.specs.declared.row.Course.{Course}
-use Rattle.sheet_check.specs.declared.row.Reads.{Reads}
-use Rattle.sheet_check.specs.declared.row.RowRun.{RowRun}
+use Rattle.row_run.specs.declared.row.Course.{Course}
+use Rattle.row_run.specs.declared.row.Reads.{Reads}
+use Rattle.row_run.specs.declared.row.RowRun.{RowRun}
 use Rattle.sheet_check.specs.declared.survey.Survey.{Survey}
-use Rattle.sheet_check.specs.RowRun.{rowPending, courseOutput, coursePending, RowRunOf}
+use Rattle.row_run.specs.RowRun.{rowPending, courseOutput, coursePending, RowRunOf}
 use Rattle.sheet_check.specs.Survey.{noted, LowestOf, said, waiting, Accepts, Starves, SurveyTo}
 
 -- ---- the first bad one

@@ -6,7 +6,7 @@ use Rattle.tables.specs.declared.trace.Ending.{Ending}
 use Rattle.tables.specs.declared.trace.Ending.the-variants.{Open, Loop}
 use Rattle.sheet_check.specs.declared.finding.Finding.{Finding}
 use Rattle.sheet_check.specs.declared.finding.Finding.the-variants.{Failed, Starved, Pending, Passes}
-use Rattle.sheet_check.specs.declared.row.Course.{Course}
+use Rattle.row_run.specs.declared.row.Course.{Course}
 use Rattle.sheet_check.specs.declared.survey.Survey.{Survey}
 
 -- an open take once; a looped one with one round of its loop more, in which accepts count: after the first round the pendings with

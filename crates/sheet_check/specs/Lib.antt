@@ -1,5 +1,3 @@
-pub mod RowRun
-pub mod Word
 pub mod Survey
 pub mod Finding
 pub mod Conclusion

@@ -12,8 +12,8 @@ use Rattle.meaning.specs.Satisfaction.{tableOf}
 use Rattle.monitors.specs.declared.Output.{Output}
 use Rattle.monitors.specs.Run.{Activators, pendingBefore, output}
 use Rattle.monitors.specs.Sheet.{activatorAt}
-use Rattle.sheet_check.specs.declared.row.Course.{Course}
-use Rattle.sheet_check.specs.declared.row.RowRun.{RowRun}
+use Rattle.row_run.specs.declared.row.Course.{Course}
+use Rattle.row_run.specs.declared.row.RowRun.{RowRun}
 use Rattle.sheet_check.specs.declared.survey.Survey.{Survey}
 
 -- one row more is noted

@@ -1,8 +1,8 @@
 // The finding of a check on tables that have passed their own checks.
 use crate::finding::Finding;
-use crate::row::Course;
 use crate::survey;
 use crate::survey::Survey;
+use row_run::row::Course;
 use tables::row::NormalForm;
 use tables::trace::Activation;
 use tables::trace::Ending;

@@ -14,9 +14,7 @@ ghost use Rattle.sheet_check.specs.Answer.{CheckAnswers, checkOutcome, t
 
 pub mod find;
 pub mod finding;
-pub mod row;
 pub mod survey;
-pub mod word;
 
 // The formula's own refusals, the trace's, the sheet's, then 7.
 fn check_tables(formula: Formula, trace: Trace, sheet: Activation) -> Outcome

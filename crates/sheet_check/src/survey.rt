@@ -1,8 +1,8 @@
 // All rows' monitors, run along the take one after the other.
-use crate::row;
-use crate::row::Course;
-use crate::row::Reads;
-use crate::row::RowRun;
+use row_run::row;
+use row_run::row::Course;
+use row_run::row::Reads;
+use row_run::row::RowRun;
 use tables::row::NormalForm;
 use tables::row::Row;
 use tables::trace::Activation;
@@ -12,7 +12,7 @@ ghost use mathlib.Core.Bool.{_&&_};
 ghost use lib.Dec.{eqb};
 ghost use Rattle.tables.specs.Choice.{pick};
 ghost use Rattle.normal_form.specs.Form.{InNormalForm};
-ghost use Rattle.sheet_check.specs.RowRun.{CourseOf};
+ghost use Rattle.row_run.specs.RowRun.{CourseOf};
 ghost use Rattle.sheet_check.specs.Survey.{SurveyTo, noted};
 
 // The earliest cycle in which a monitor fails, or the end, and the lowest row that fails there. Where none fails: the lowest row

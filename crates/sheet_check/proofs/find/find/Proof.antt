@@ -1,7 +1,7 @@
 use Rattle.text.proofs.Searching.{know}
 use borrow.Author.Tests.{not-true, not-false}
 use mathlib.Core.Path.{refl, ap, subst, subst⁻¹, _∙_}
-use Rattle.sheet_check.specs.declared.row.Course.{Course}
+use Rattle.row_run.specs.declared.row.Course.{Course}
 use Rattle.sheet_check.specs.Survey.{SurveyTo}
 use Rattle.sheet_check.specs.Finding.{FindingOf}
 use Rattle.sheet_check.specs.Conclusion.{concluded}

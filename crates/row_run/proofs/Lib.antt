@@ -1,0 +1,3 @@
+pub mod RunLoop
+pub mod WordLaws
+pub mod WordLoop
