@@ -15,9 +15,10 @@ use text::search::Found;
 fn kind_named(word: &[u8]) -> Found
     ensures { λ r. ⌜ r ≡ kindNamed (now (word .entry)) ⌝ }
 {
+    let kinds = kind::table();
     let mut place = 0;
     while place < 14 {
-        let kind = kind::kind_at(place);
+        let kind = kinds[place];
         let bytes = kind.word;
         let length = kind.length;
         if text::search::same(word, &bytes[..length]) {

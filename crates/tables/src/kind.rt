@@ -1,7 +1,7 @@
 // The kinds of rows, once, as a table (01: "The words and their partners stand once as a table").
 ghost use mathlib.Core.Path.{_≡_};
 ghost use Prim.Native.Nat.{_<_};
-ghost use Rattle.tables.specs.Kind.{binaryPlace, constantPlace, dualOf, firstNumber, kindAt, numbersIn, placeOf, secondNumber, signalPlace, unaryPlace, withNumbers};
+ghost use Rattle.tables.specs.Kind.{binaryPlace, constantPlace, dualOf, firstNumber, kindAt, kinds, numbersIn, placeOf, secondNumber, signalPlace, unaryPlace, withNumbers};
 use crate::row::BinaryKind;
 use crate::row::ConstantKind;
 use crate::row::Row;
@@ -105,6 +105,13 @@ const KINDS: [Kind; 14] = [
         partner: 10,
     },
 ];
+
+// The table, for who looks at many of its places: the compiler stores it anew each time that it is indexed by a variable.
+pub fn table() -> [Kind; 14]
+    ensures { λ r. ⌜ r ≡ kinds ⌝ }
+{
+    KINDS
+}
 
 // The kind at a place of the table.
 pub fn kind_at(place: usize) -> Kind

@@ -1,8 +1,9 @@
-use mathlib.Core.Path.{_≡_, subst}
+use mathlib.Core.Path.{_≡_, sym, subst}
 use mathlib.Core.Bool.{true, false}
-use Prim.Native.Nat.{_-_, _≤_}
-use lib.ListN.{length, length-take}
-use native.Mathlib.Omega.{arith}
+use mathlib.Core.List.{List}
+use Prim.Native.Nat.{_-_}
+use lib.ListN.{getD}
+use lib.Seq.{length-take-le}
 use borrow.Author.Needs.{needs}
 use Rattle.tables.specs.Bytes.{sameBytes}
 use Rattle.tables.specs.Kind.{kinds, kindAt, noKind, wordOf}
@@ -14,28 +15,30 @@ use Rattle.rule_row.proofs.kind_named.Statement.{statement}
 use Rattle.rule_row.proofs.kind_named.Tie as tie
 
 abbrev Inv-loop : tie.InvT-loop
-Inv-loop word place₀ place = FirstAt (λ (k : Kind). sameBytes word (wordOf k)) kinds place
+Inv-loop word table place₀ place = FirstAt (λ (k : Kind). sameBytes word (wordOf k)) kinds place
 
 abbrev μ-loop : tie.MeasureT-loop
-μ-loop word place₀ place = 14 - place
+μ-loop word table place₀ place = 14 - place
 
 loop-holds : tie.Need-loop-holds Inv-loop μ-loop
 unfolding kindNamed kinds
 loop-holds c = first-starts _ _
 
 array-share-prefix-bytes : tie.Need-array-share-prefix-bytes Inv-loop μ-loop
-array-share-prefix-bytes c = rw (c .before .kind-at .ensures) (word-fits _ (search needs))
+unfolding kindAt
+array-share-prefix-bytes c = rw (c .before .before .before .before .table .ensures) (word-fits (c .before .before .before .loop .place) (search needs))
 
 slice-aggregate-same : tie.Need-slice-aggregate-same Inv-loop μ-loop
-slice-aggregate-same c = let h : c .before .before .kind-at .result .length ≤ length (c .before .before .kind-at .result .word) = rw (c .before .before .kind-at .ensures) (word-fits _ (search needs)) in simp length-take (omega arith)
+unfolding kindAt
+slice-aggregate-same c = sym (length-take-le _ _ (rw (c .before .before .before .before .before .table .ensures) (word-fits (c .before .before .before .before .loop .place) (search needs))))
 
 returns : tie.Need-returns Inv-loop μ-loop
 unfolding kindNamed kinds kindAt
-returns c = first-hit (c .before .before .before .before .before .before .loop .inv) noKind (search needs) (subst (λ (k : Kind). sameBytes (c .before .before .before .before .before .before .before .before .args .word .now) (wordOf k) ≡ true) (c .before .before .before .before .kind-at .ensures) (know (c .before .same .ensures) (c .if1 .taken)))
+returns c = first-hit (c .before .before .before .before .before .before .loop .inv) noKind (search needs) (subst (λ (l : List Kind). sameBytes (c .before .before .before .before .before .before .before .before .before .args .word .now) (wordOf (getD l (c .before .before .before .before .before .before .loop .place) noKind)) ≡ true) (c .before .before .before .before .before .before .before .table .ensures) (know (c .before .same .ensures) (c .if1 .taken)))
 
 loop-again : tie.Need-loop-again Inv-loop μ-loop
 unfolding kinds kindAt
-loop-again c = first-miss (c .before .before .before .before .before .before .loop .inv) noKind (search needs) (subst (λ (k : Kind). sameBytes (c .before .before .before .before .before .before .before .before .args .word .now) (wordOf k) ≡ false) (c .before .before .before .before .kind-at .ensures) (know (c .before .same .ensures) (c .if1 .left)))
+loop-again c = first-miss (c .before .before .before .before .before .before .loop .inv) noKind (search needs) (subst (λ (l : List Kind). sameBytes (c .before .before .before .before .before .before .before .before .before .args .word .now) (wordOf (getD l (c .before .before .before .before .before .before .loop .place) noKind)) ≡ false) (c .before .before .before .before .before .before .before .table .ensures) (know (c .before .same .ensures) (c .if1 .left)))
 
 returns-2 : tie.Need-returns-2 Inv-loop μ-loop
 unfolding kindNamed kinds
@@ -47,8 +50,10 @@ kind-named-spec =
     (tie.spec
     Inv-loop
     μ-loop
-    loop-holds
     (λ c κs. search needs)
+    loop-holds
+    (λ c. search needs)
+    (λ c. search needs)
     array-share-prefix-bytes
     slice-aggregate-same
     (λ c κs. search needs)
