@@ -18,7 +18,7 @@ use Rattle.sheet_maker.proofs.Answers.{makes-once}
 use Rattle.sheet_check.specs.declared.finding.CheckAnswer.{CheckAnswer}
 use Rattle.sheet_check.specs.declared.finding.CheckAnswer.the-variants.{Checked}
 use Rattle.sheet_check.specs.Answer.{CheckAnswers, checkOutcome}
-use Rattle.library.specs.Code.{bytesCode, checkCode, judgeCode, makerCode}
+use Rattle.answer_code.specs.Code.{bytesCode, checkCode, judgeCode, makerCode}
 use Rattle.library.specs.Service.{CheckedAs, JudgedAs, MadeAs, PrintedAs}
 
 pub judged-once : {o : Outcome} {f : Formula} {t : Trace} {r s : ℕ} → JudgedAs o f t r → JudgedAs o f t s → r ≡ s

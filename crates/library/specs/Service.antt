@@ -15,7 +15,7 @@ use Rattle.sheet_maker.specs.declared.MakerAnswer.{MakerAnswer}
 use Rattle.sheet_maker.specs.Answer.{Makes}
 use Rattle.sheet_check.specs.declared.finding.CheckAnswer.{CheckAnswer}
 use Rattle.sheet_check.specs.Answer.{CheckAnswers, checkOutcome}
-use Rattle.library.specs.Code.{bytesCode, checkCode, judgeCode, makerCode, refusalCode}
+use Rattle.answer_code.specs.Code.{bytesCode, checkCode, judgeCode, makerCode, refusalCode}
 
 -- a refused call: its code, and "Output buffers are then untouched"
 abbrev pub Turned : List ℕ → List ℕ → ℕ → Refusal → Type 0

@@ -11,13 +11,11 @@ ghost use Rattle.normal_form.specs.declared.sign.Sign.the-variants.{Plain};
 ghost use Rattle.normal_file.specs.Answer.{boundAnswer, normalAnswer, normalLeft};
 ghost use Rattle.judging.specs.Refusals.{loopedOutcome, openOutcome, pairOutcome};
 ghost use Rattle.step.specs.Step.{stepAnswer, stepLeft};
-ghost use Rattle.library.specs.Code.{bytesCode, outcomeCode, refusalCode, signOf};
+ghost use Rattle.answer_code.specs.Code.{bytesCode, outcomeCode, refusalCode, signOf};
 ghost use Rattle.rule_and_take.specs.File.{OnFile, OnPair};
 ghost use Rattle.library.specs.Service.{CheckedAs, JudgedAs, MadeAs, PrintedAs, Turned};
 use normal_form::sign::Sign;
 use tables::refusal::Outcome;
-
-pub mod code;
 
 // Whether a file is a rule file, a take file, a sheet file.
 #[no_mangle]
@@ -26,7 +24,7 @@ pub extern "C" fn citronhelm_read_rule(rule: &[u8]) -> u64
 {
     let read = rule_file::rule::read_rule(rule);
     let outcome = read.outcome;
-    code::outcome_code(outcome)
+    answer_code::outcome_code(outcome)
 }
 
 #[no_mangle]
@@ -35,7 +33,7 @@ pub extern "C" fn citronhelm_read_take(take: &[u8]) -> u64
 {
     let read = take_file::take::read_take(take);
     let outcome = read.outcome;
-    code::outcome_code(outcome)
+    answer_code::outcome_code(outcome)
 }
 
 #[no_mangle]
@@ -44,7 +42,7 @@ pub extern "C" fn citronhelm_read_sheet(sheet: &[u8]) -> u64
 {
     let read = sheet_file::sheet::read_sheet(sheet);
     let outcome = read.outcome;
-    code::outcome_code(outcome)
+    answer_code::outcome_code(outcome)
 }
 
 // A bound on the length of the normal form's file.
@@ -55,8 +53,8 @@ pub extern "C" fn citronhelm_bound(rule: &[u8]) -> u64
     let read = rule_file::rule::read_rule(rule);
     let outcome = read.outcome;
     match outcome {
-        Outcome::Refused(refusal) => code::refusal_code(refusal),
-        Outcome::Accepted => code::bytes_code(normal_file::bound(read.formula)),
+        Outcome::Refused(refusal) => answer_code::refusal_code(refusal),
+        Outcome::Accepted => answer_code::bytes_code(normal_file::bound(read.formula)),
     }
 }
 
@@ -68,7 +66,7 @@ pub extern "C" fn citronhelm_rows(rule: &[u8]) -> u64
     let read = rule_file::rule::read_rule(rule);
     let outcome = read.outcome;
     match outcome {
-        Outcome::Refused(refusal) => code::refusal_code(refusal),
+        Outcome::Refused(refusal) => answer_code::refusal_code(refusal),
         Outcome::Accepted => {
             let form = normal_form::normal_form(read.formula, Sign::Plain);
             form.rows as u64
@@ -84,10 +82,10 @@ pub extern "C" fn citronhelm_normal(rule: &[u8], negated: u8, output: &mut [u8])
     let read = rule_file::rule::read_rule(rule);
     let outcome = read.outcome;
     match outcome {
-        Outcome::Refused(refusal) => code::refusal_code(refusal),
+        Outcome::Refused(refusal) => answer_code::refusal_code(refusal),
         Outcome::Accepted => {
-            let sign = code::sign_named(negated);
-            code::bytes_code(normal_file::write_normal(read.formula, sign, output))
+            let sign = answer_code::sign_named(negated);
+            answer_code::bytes_code(normal_file::write_normal(read.formula, sign, output))
         }
     }
 }
@@ -100,8 +98,8 @@ pub extern "C" fn citronhelm_judge(rule: &[u8], take: &[u8]) -> u64
     let pair = rule_and_take::read_pair(rule, take);
     let outcome = pair.outcome;
     match outcome {
-        Outcome::Refused(refusal) => code::refusal_code(refusal),
-        Outcome::Accepted => code::judge_code(judging::judge(pair.formula, pair.trace)),
+        Outcome::Refused(refusal) => answer_code::refusal_code(refusal),
+        Outcome::Accepted => answer_code::judge_code(judging::judge(pair.formula, pair.trace)),
     }
 }
 
@@ -112,8 +110,11 @@ pub extern "C" fn citronhelm_judge_looped(rule: &[u8], take: &[u8]) -> u64
     let pair = rule_and_take::read_pair(rule, take);
     let outcome = pair.outcome;
     match outcome {
-        Outcome::Refused(refusal) => code::refusal_code(refusal),
-        Outcome::Accepted => code::judge_code(judging::judge_looped(pair.formula, pair.trace)),
+        Outcome::Refused(refusal) => answer_code::refusal_code(refusal),
+        Outcome::Accepted => answer_code::judge_code(judging::judge_looped(
+            pair.formula,
+            pair.trace,
+        )),
     }
 }
 
@@ -124,8 +125,8 @@ pub extern "C" fn citronhelm_judge_open(rule: &[u8], take: &[u8]) -> u64
     let pair = rule_and_take::read_pair(rule, take);
     let outcome = pair.outcome;
     match outcome {
-        Outcome::Refused(refusal) => code::refusal_code(refusal),
-        Outcome::Accepted => code::judge_code(judging::judge_open(pair.formula, pair.trace)),
+        Outcome::Refused(refusal) => answer_code::refusal_code(refusal),
+        Outcome::Accepted => answer_code::judge_code(judging::judge_open(pair.formula, pair.trace)),
     }
 }
 
@@ -134,7 +135,7 @@ pub extern "C" fn citronhelm_judge_open(rule: &[u8], take: &[u8]) -> u64
 pub extern "C" fn citronhelm_judge_text(rule: &[u8], take: &[u8], output: &mut [u8]) -> u64
     ensures { λ r. ⌜ PrintedAs (now (rule .entry)) (now (take .entry)) (now (output .entry)) (now (output .exit)) r ⌝ }
 {
-    code::bytes_code(judge_text::judge(rule, take, output))
+    answer_code::bytes_code(judge_text::judge(rule, take, output))
 }
 
 // One cycle of a rule's monitors.
@@ -151,8 +152,8 @@ pub extern "C" fn citronhelm_step(
     let read = rule_file::rule::read_rule(rule);
     let outcome = read.outcome;
     match outcome {
-        Outcome::Refused(refusal) => code::refusal_code(refusal),
-        Outcome::Accepted => code::bytes_code(step::step(
+        Outcome::Refused(refusal) => answer_code::refusal_code(refusal),
+        Outcome::Accepted => answer_code::bytes_code(step::step(
             read.formula,
             pendings,
             activators,
@@ -170,8 +171,8 @@ pub extern "C" fn citronhelm_make_sheet(rule: &[u8], take: &[u8], output: &mut [
     let pair = rule_and_take::read_pair(rule, take);
     let outcome = pair.outcome;
     match outcome {
-        Outcome::Refused(refusal) => code::refusal_code(refusal),
-        Outcome::Accepted => code::maker_code(sheet_maker::make_sheet(
+        Outcome::Refused(refusal) => answer_code::refusal_code(refusal),
+        Outcome::Accepted => answer_code::maker_code(sheet_maker::make_sheet(
             pair.formula,
             pair.trace,
             output,
@@ -187,13 +188,13 @@ pub extern "C" fn citronhelm_check_sheet(rule: &[u8], take: &[u8], sheet: &[u8])
     let pair = rule_and_take::read_pair(rule, take);
     let outcome = pair.outcome;
     match outcome {
-        Outcome::Refused(refusal) => code::refusal_code(refusal),
+        Outcome::Refused(refusal) => answer_code::refusal_code(refusal),
         Outcome::Accepted => {
             let third = sheet_file::sheet::read_sheet(sheet);
             let own = third.outcome;
             match own {
-                Outcome::Refused(refusal) => code::refusal_code(refusal),
-                Outcome::Accepted => code::check_code(sheet_check::check_sheet(
+                Outcome::Refused(refusal) => answer_code::refusal_code(refusal),
+                Outcome::Accepted => answer_code::check_code(sheet_check::check_sheet(
                     pair.formula,
                     pair.trace,
                     third.activation,

@@ -1,7 +1,7 @@
 use mathlib.Core.Path.{ap, _∙_}
 use Rattle.rule_file.specs.Rule.{parseRule}
 use Rattle.rule_file.proofs.Rules.{rule-said, rule-is}
-use Rattle.library.specs.Code.{bytesCode}
+use Rattle.answer_code.specs.Code.{bytesCode}
 use Rattle.rule_and_take.proofs.Files.{file-refused, file-read}
 use borrow.Author.Needs.{needs}
 use Rattle.library.proofs.citronhelm_bound.Statement.{statement}

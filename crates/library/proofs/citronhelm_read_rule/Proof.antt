@@ -1,6 +1,6 @@
 use mathlib.Core.Path.{ap, _∙_}
 use Rattle.rule_file.specs.declared.rule.RuleAnswer.{RuleAnswer}
-use Rattle.library.specs.Code.{outcomeCode}
+use Rattle.answer_code.specs.Code.{outcomeCode}
 use borrow.Author.Needs.{needs}
 use Rattle.library.proofs.citronhelm_read_rule.Statement.{statement}
 use Rattle.library.proofs.citronhelm_read_rule.Tie as tie

@@ -1,6 +1,6 @@
 use mathlib.Core.Path.{ap, _∙_}
 use Rattle.sheet_file.specs.declared.sheet.SheetAnswer.{SheetAnswer}
-use Rattle.library.specs.Code.{outcomeCode}
+use Rattle.answer_code.specs.Code.{outcomeCode}
 use borrow.Author.Needs.{needs}
 use Rattle.library.proofs.citronhelm_read_sheet.Statement.{statement}
 use Rattle.library.proofs.citronhelm_read_sheet.Tie as tie

@@ -1,6 +1,6 @@
 use mathlib.Core.Path.{ap, _∙_}
 use Rattle.take_file.specs.declared.take.TakeAnswer.{TakeAnswer}
-use Rattle.library.specs.Code.{outcomeCode}
+use Rattle.answer_code.specs.Code.{outcomeCode}
 use borrow.Author.Needs.{needs}
 use Rattle.library.proofs.citronhelm_read_take.Statement.{statement}
 use Rattle.library.proofs.citronhelm_read_take.Tie as tie
