@@ -8,7 +8,7 @@ use Rattle.tables.specs.declared.refusal.Reason.the-variants.{TooLong, WrongFor
 use Rattle.tables.specs.declared.refusal.Refusal.{Refusal}
 use Rattle.judging.specs.declared.verdict.Verdict.{Verdict}
 use Rattle.judging.specs.declared.verdict.Verdict.the-variants.{Holds, Breaks, Kept, Broken, Open}
-use Rattle.sheet_check.specs.declared.finding.Finding.the-variants.{Failed}
+use Rattle.sheet_check.specs.declared.finding.Finding.the-variants.{Failed, Starved, Pending}
 use Rattle.answer_code.specs.Code.{findingCode, refusalCode, verdictCode}
 
 number-below : (reason : Reason) → number reason < 256
@@ -57,3 +57,16 @@ module _ (row cycle : ℕ) (r : row < 256) (c : cycle < 65536) where
 
   pub failed-cycle : findingCode (Failed row cycle) / 65536 ≡ cycle
   failed-cycle = omega arith
+
+module _ (row : ℕ) (r : row < 256) where
+  pub starved-number : findingCode (Starved row) % 256 ≡ 3
+  starved-number = omega arith
+
+  pub starved-row : findingCode (Starved row) / 256 ≡ row
+  starved-row = omega arith
+
+  pub pending-number : findingCode (Pending row) % 256 ≡ 4
+  pending-number = omega arith
+
+  pub pending-row : findingCode (Pending row) / 256 ≡ row
+  pending-row = omega arith

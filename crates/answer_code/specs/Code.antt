@@ -1,4 +1,5 @@
--- The numbers by which callers in C ask and are answered (include/citronhelm.h). The highest bit is set where the call is refused. Assumes nothing.
+-- The numbers by which callers in C ask and are answered (include/citronhelm.h). The highest bit is set where the call is refused.
+-- Assumes nothing.
 use Prim.Native.Nat.{ℕ, _+_, _*_, _%_}
 use lib.Dec.{eqb}
 use Rattle.tables.specs.Choice.{pick}

@@ -1,7 +1,6 @@
 // The services for programs in C and Rust (include/citronhelm.h): files in as bytes, an answer out as one number, and output into a
 // lent buffer. No state, nothing asked of the caller. A slice passes as a pointer and a length.
 ghost use mathlib.Core.Path.{_≡_};
-ghost use Prim.Native.Nat.{_*_};
 ghost use Rattle.text.specs.Result.{outcomeOf};
 ghost use Rattle.rule_file.specs.Rule.{parseRule};
 ghost use Rattle.take_file.specs.Take.{parseTake};
