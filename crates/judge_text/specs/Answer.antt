@@ -4,7 +4,7 @@ use mathlib.Core.Path.{_≡_}
 use mathlib.Core.Bool.{Bool, true, false}
 use mathlib.Core.List.{List}
 use lib.Dec.{eqb}
-use Rattle.tables.specs.declared.refusal.Reason.the-variants.{SignalsDiffer}
+use Rattle.tables.specs.Refusal.{numbered}
 use Rattle.tables.specs.declared.row.Formula.{Formula}
 use Rattle.tables.specs.declared.trace.Trace.{Trace}
 use Rattle.text.specs.Result.{Result}
@@ -28,7 +28,7 @@ IsVerdictText f t text = (v : Verdict) × VerdictOf f t v × (text ≡ verdictTe
 -- 7: "Rule and take differ in `signals`", "file and line 0"
 abbrev pub IsPairText : Bool → Formula → Trace → List ℕ → Type 0
 IsPairText true f t text = IsVerdictText f t text
-IsPairText false f t text = text ≡ refusalText (record { reason = SignalsDiffer; file = 0; line = 0 })
+IsPairText false f t text = text ≡ refusalText (record { reason = numbered 7; file = 0; line = 0 })
 
 -- a file that is turned back, or two tables
 abbrev pub IsText : Result Formula → Result Trace → List ℕ → Type 0

@@ -2,8 +2,7 @@
 use mathlib.Core.Path.{_≡_}
 use lib.Dec.{eqb}
 use Rattle.tables.specs.Choice.{pick}
-use Rattle.tables.specs.Refusal.{andThen, callRefused}
-use Rattle.tables.specs.declared.refusal.Reason.the-variants.{SignalsDiffer, WrongEnding}
+use Rattle.tables.specs.Refusal.{andThen, callRefused, numbered}
 use Rattle.tables.specs.declared.refusal.Outcome.{Outcome}
 use Rattle.tables.specs.declared.refusal.Outcome.the-variants.{Accepted, Refused}
 use Rattle.tables.specs.declared.row.Formula.{Formula}
@@ -26,16 +25,16 @@ abbrev pub pairOutcome : Formula → Trace → Outcome
 pairOutcome f t =
     andThen (outcomeOf 1 (parseRule (writtenRule f)))
     (andThen (outcomeOf 2 (parseTake (writtenTake t)))
-    (pick (eqb (f .signals) (t .signals)) Accepted (callRefused SignalsDiffer)))
+    (pick (eqb (f .signals) (t .signals)) Accepted (callRefused (numbered 7))))
 
 -- 8: "A looped service has an open take, or an open service a looped one."
 abbrev pub needsLoop : Ending → Outcome
-needsLoop Open = callRefused WrongEnding
+needsLoop Open = callRefused (numbered 8)
 needsLoop (Loop l) = Accepted
 
 abbrev pub needsNoLoop : Ending → Outcome
 needsNoLoop Open = Accepted
-needsNoLoop (Loop l) = callRefused WrongEnding
+needsNoLoop (Loop l) = callRefused (numbered 8)
 
 abbrev pub loopedOutcome : Formula → Trace → Outcome
 loopedOutcome f t = andThen (pairOutcome f t) (needsLoop (t .ending))

@@ -21,8 +21,7 @@ use Rattle.tables.proofs.Places.{length-tabulate}
 use Rattle.text.specs.Result.{Result}
 use Rattle.text.specs.Result.Result.{accepted, refused}
 use Rattle.text.specs.Written.{decimal, digitsText, writtenBody, writtenLine}
-use Rattle.text.proofs.DigitLines.{text-length}
-use Rattle.text.proofs.Elements.{decimal-short, line-length}
+use Rattle.text.proofs.Laws.{text-length, decimal-short, line-length}
 use Rattle.rule_file.specs.Valid.{InRange}
 use Rattle.take_file.specs.Written.{endingText}
 use Rattle.sheet_file.specs.Written.{rowsOf, writtenSheet}

@@ -15,11 +15,11 @@ use Rattle.tables.specs.declared.row.Row.the-variants.{Constant, Signal, Unary,
 use Rattle.tables.specs.declared.row.Formula.{Formula}
 use Rattle.text.specs.Body.{EachAt}
 use Rattle.text.specs.Written.{decimal, writtenLine, writtenBody}
-use Rattle.text.proofs.Elements.{line-length}
+use Rattle.text.proofs.Laws.{line-length}
 use Rattle.rule_row.specs.Row.{inRange}
 use Rattle.rule_file.specs.Valid.{InRange}
 use Rattle.rule_row.specs.Written.{numbersText, writtenRow}
-use Rattle.rule_row.proofs.RowValues.{numbers-below}
+use Rattle.rule_row.proofs.Laws.{numbers-below}
 use Rattle.normal_form.specs.declared.sign.Sign.{Sign}
 use Rattle.normal_form.specs.Numbering.{normalRows, normalForm}
 use Rattle.normal_form.proofs.Ranges.{rows-double, form-normal, form-rows}

@@ -16,10 +16,10 @@ use Rattle.tables.specs.declared.row.Row.the-variants.{Constant, Signal, Unary,
 use Rattle.tables.specs.declared.row.RowPlace.{RowPlace}
 use Rattle.tables.specs.declared.row.NormalForm.{NormalForm}
 use Rattle.text.specs.Body.{EachAt}
-use Rattle.text.proofs.Elements.{ok-at}
+use Rattle.text.proofs.Laws.{ok-at}
 use Rattle.rule_row.specs.Row.{isSignal, inRange}
 use Rattle.rule_file.specs.Rule.{inPlace, unused}
-use Rattle.rule_row.proofs.RowValues.{signal-most}
+use Rattle.rule_row.proofs.Laws.{signal-most}
 use Rattle.meaning.specs.Satisfaction.{tableOf}
 use Rattle.meaning.proofs.Rows.{Each, each-map, EachSignal, each-signal-map, Ordered, Positive}
 use Rattle.normal_form.specs.Operand.{rowIn, isNot}

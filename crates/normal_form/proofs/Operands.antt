@@ -21,8 +21,8 @@ use Rattle.tables.specs.declared.row.Row.{Row}
 use Rattle.tables.specs.declared.row.Row.the-variants.{Constant, Signal, Unary, Binary}
 use Rattle.tables.specs.declared.row.RowPlace.{RowPlace}
 use Rattle.tables.specs.declared.row.Formula.{Formula}
-use Rattle.text.proofs.Elements.{ok-at}
-use Rattle.text.proofs.Searching.{pick-both}
+use Rattle.text.proofs.Laws.{ok-at}
+use Rattle.tables.proofs.Choices.{pick-both}
 use Rattle.rule_row.specs.Row.{isOperand, inRange}
 use Rattle.rule_file.specs.Rule.{inPlace, unused}
 use Rattle.rule_file.specs.Valid.{InRange}

@@ -12,7 +12,7 @@ use Rattle.tables.specs.declared.row.Row.{Row}
 use Rattle.tables.specs.declared.row.RowPlace.{RowPlace}
 use Rattle.tables.specs.declared.row.Formula.{Formula}
 use Rattle.text.specs.Body.{EachAt}
-use Rattle.text.proofs.Elements.{all-ok}
+use Rattle.text.proofs.Laws.{all-ok}
 use Rattle.rule_row.specs.Row.{inRange}
 use Rattle.rule_file.specs.Rule.{inPlace, unused}
 use Rattle.rule_file.specs.Valid.{InRange}

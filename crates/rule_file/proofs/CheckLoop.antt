@@ -18,7 +18,7 @@ use Rattle.tables.specs.declared.refusal.Reason.the-variants.{BadReference}
 use Rattle.tables.specs.declared.row.Row.{Row}
 use Rattle.tables.specs.declared.row.RowPlace.{RowPlace}
 use Rattle.text.specs.Body.{bodyLines, EachAt}
-use Rattle.text.proofs.Elements.{ok-more}
+use Rattle.text.proofs.Laws.{ok-more}
 use Rattle.text.specs.Result.{outcomeOf}
 use Rattle.text.specs.Written.{writtenBody}
 use Rattle.text.proofs.Bodies.{body-line, outcome-map}

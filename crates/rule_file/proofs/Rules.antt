@@ -28,11 +28,11 @@ use Rattle.text.specs.Result.{Result, onLine, mapResult, outcomeOf}
 use Rattle.text.specs.Result.Parsed.{good}
 use Rattle.text.specs.Result.Result.{accepted, refused}
 use Rattle.text.specs.Written.{decimal, writtenLine, writtenBody}
-use Rattle.text.proofs.Searching.{clash}
+use Rattle.tables.proofs.Choices.{clash}
 use Rattle.text.proofs.Lines.{Free}
 use Rattle.text.proofs.Bodies.{BodyOf, body-starts, body-surplus, body-line, body-written, body-read}
 use Rattle.text.proofs.Headers.{count-then, count-in, count-below, count-above, count-range, map-accepted, test-accepted, outcome-accepted, parsed-accepted}
-use Rattle.text.proofs.Elements.{decimal-short, count-short, body-short}
+use Rattle.text.proofs.Laws.{decimal-short, count-short, body-short}
 use Rattle.text.proofs.Answered.{accepted-table}
 use Rattle.text.proofs.RefusedLines.{RefusedBy, map-by, test-by, count-by, body-by, refused-line, outcome-line}
 use Rattle.rule_row.specs.Row.{inRange, rowValue}

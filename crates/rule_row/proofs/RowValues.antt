@@ -15,7 +15,8 @@ use Rattle.tables.specs.declared.row.Row.{Row}
 use Rattle.tables.specs.declared.row.Row.the-variants.{Constant, Signal, Unary, Binary}
 use Rattle.text.specs.Result.Parsed.{good, bad}
 use Rattle.text.specs.declared.search.Found.the-variants.{At, Nothing}
-use Rattle.text.proofs.Searching.{clash, pick-both}
+use Rattle.tables.proofs.Choices.{clash, pick-both}
+use Rattle.rule_row.proofs.Laws.{signal-most, operand-below}
 use Rattle.rule_row.specs.Row.{kindNamed, formOf, rowForm, isSignal, isOperand, inRange, rowValue}
 
 -- a word by its kind
@@ -49,16 +50,6 @@ module _ (signals number : ℕ) (value : List ℕ) where
     value-inside o = rw (f, o)
 
 -- numbers in their ranges are small
-pick-no : (t b : Bool) → pick t false b ≡ true → b ≡ true
-pick-no true b e = clash (cc)
-pick-no false b e = e
-
-pub signal-most : (signals s : ℕ) → isSignal signals s ≡ true → s ≤ signals
-signal-most signals s e = leb-true s signals (pick-no (eqb s 0) (leb s signals) e)
-
-pub operand-below : (number a : ℕ) → isOperand number a ≡ true → a < number
-operand-below number a e = ltb-true a number (pick-no (eqb a 0) (ltb a number) e)
-
 module _ (signals number : ℕ) (hs : signals ≤ 32) (hn : number ≤ 64) where
   same-byte : (a : ℕ) → a < 256 → a % 256 ≡ a
   same-byte a h = mod-eq-of-lt h
@@ -71,12 +62,3 @@ module _ (signals number : ℕ) (hs : signals ≤ 32) (hn : number ≤ 64) where
   small-numbers (Binary k s t) a b e =
       let w = pick-both (isOperand number a) (isOperand number b) e in
       ap₂ (Binary k) (same-byte a (omega (arith, operand-below number a (w .0)))) (same-byte b (omega (arith, operand-below number b (w .1))))
-
--- numbers in their ranges lie below any bound that the ranges lie below
-pub numbers-below : (signals number bound : ℕ) → signals < bound → number ≤ bound → (r : Row) → inRange signals number r ≡ true → (firstNumber r < bound) × (secondNumber r < bound)
-numbers-below signals number bound hs hn (Constant k) e = (omega arith, omega arith)
-numbers-below signals number bound hs hn (Signal k s) e = (omega (arith, signal-most signals s e), omega arith)
-numbers-below signals number bound hs hn (Unary k a) e = (omega (arith, operand-below number a e), omega arith)
-numbers-below signals number bound hs hn (Binary k a b) e =
-    let w = pick-both (isOperand number a) (isOperand number b) e in
-    (omega (arith, operand-below number a (w .0)), omega (arith, operand-below number b (w .1)))

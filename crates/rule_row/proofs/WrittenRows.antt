@@ -23,13 +23,15 @@ use Rattle.text.specs.Written.{decimal}
 use Rattle.text.specs.declared.search.Found.{Found}
 use Rattle.text.specs.declared.search.Found.the-variants.{At, Nothing}
 use Rattle.text.specs.declared.number.Number.the-variants.{Is}
-use Rattle.text.proofs.Searching.{clash, hit, each-found, each-pick, same-eq}
+use Rattle.tables.proofs.Choices.{clash, each-pick}
+use Rattle.text.proofs.Searching.{hit, each-found, same-eq}
 use Rattle.text.proofs.Numbers.{number-written, number-read, each-number}
 use Rattle.text.proofs.Lines.{Free, free-append, first-at, first-free, cut-front, cut-behind, cut-found, no-digit-below, free-decimal}
 use Rattle.text.proofs.Headers.{lacks, free, free-below, decimal-inj}
 use Rattle.rule_row.specs.Row.{kindNamed, formOf, rowForm, inRange, rowValue}
 use Rattle.rule_row.specs.Written.{numbersText, writtenRow}
-use Rattle.rule_row.proofs.RowValues.{form-counted, numbers-below}
+use Rattle.rule_row.proofs.RowValues.{form-counted}
+use Rattle.rule_row.proofs.Laws.{numbers-below}
 
 -- ---- the words of the table, each by one test over the whole table
 

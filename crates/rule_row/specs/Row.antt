@@ -4,11 +4,11 @@ use mathlib.Core.Bool.{Bool, true, false}
 use mathlib.Core.List.{List}
 use lib.Dec.{leb, ltb, eqb}
 use lib.ListN.{take, drop}
+use Rattle.tables.specs.Refusal.{numbered}
 use Rattle.tables.specs.Choice.{pick}
 use Rattle.tables.specs.Bytes.{sameBytes}
 use Rattle.tables.specs.Kind.{kinds, kindAt, wordOf, withNumbers, numbersIn}
 use Rattle.tables.specs.declared.refusal.Reason.{Reason}
-use Rattle.tables.specs.declared.refusal.Reason.the-variants.{WrongForm, BadReference}
 use Rattle.tables.specs.declared.row.Row.{Row}
 use Rattle.tables.specs.declared.row.Row.the-variants.{Constant, Signal, Unary, Binary}
 use Rattle.text.specs.Search.{firstWhere, firstOf, onFound}
@@ -28,17 +28,17 @@ kindNamed word = firstWhere (λ k. sameBytes word (wordOf k)) kinds
 -- a word with so many numbers behind it
 unfoldable pub formOf : List ℕ → ℕ → ℕ → ℕ → Parsed Row
 formOf word count a b =
-    onFound (kindNamed word) (bad WrongForm) λ k.
-    pick (eqb (numbersIn (kindAt k .row)) count) (good (withNumbers (kindAt k .row) a b)) (bad WrongForm)
+    onFound (kindNamed word) (bad (numbered 2)) λ k.
+    pick (eqb (numbersIn (kindAt k .row)) count) (good (withNumbers (kindAt k .row) a b)) (bad (numbered 2))
 
 -- a word and none, one or two numbers; "Single spaces (byte 32) stand between words and nowhere else"
 unfoldable pub rowForm : List ℕ → Parsed Row
 rowForm value =
     onFound (firstOf 32 value) (formOf value 0 0 0) λ space.
     onFound (firstOf 32 (drop (space + 1) value))
-    (onNumber (numberOf (drop (space + 1) value)) (bad WrongForm) λ a. formOf (take space value) 1 a 0) λ between.
-    onNumber (numberOf (take between (drop (space + 1) value))) (bad WrongForm) λ a.
-    onNumber (numberOf (drop (between + 1) (drop (space + 1) value))) (bad WrongForm) λ b.
+    (onNumber (numberOf (drop (space + 1) value)) (bad (numbered 2)) λ a. formOf (take space value) 1 a 0) λ between.
+    onNumber (numberOf (take between (drop (space + 1) value))) (bad (numbered 2)) λ a.
+    onNumber (numberOf (drop (between + 1) (drop (space + 1) value))) (bad (numbered 2)) λ b.
     formOf (take space value) 2 a b
 
 -- "A signal number is 0 or above `signals`": then it is none
@@ -60,17 +60,17 @@ inRange signals number (Binary c a b) = pick (isOperand number a) (isOperand num
 unfoldable pub rowValue : ℕ → ℕ → List ℕ → Parsed Row
 rowValue signals number value =
     onParsed (rowForm value) bad λ r.
-    pick (inRange signals number r) (good r) (bad BadReference)
+    pick (inRange signals number r) (good r) (bad (numbered 5))
 
 -- what each case of the code's answers says
 abbrev pub formAs : RowForm → Parsed Row
 formAs (Form r a b) = good (withNumbers r a b)
-formAs Formless = bad WrongForm
+formAs Formless = bad (numbered 2)
 
 abbrev pub rowLineAs : RowLine → Parsed (Next Row)
 rowLineAs (RowRead r i) = good (record { value = r; next = i })
 rowLineAs (Wrong e) = bad e
 
 abbrev pub reasonOf : RowLine → Reason
-reasonOf (RowRead r i) = WrongForm
+reasonOf (RowRead r i) = numbered 2
 reasonOf (Wrong e) = e

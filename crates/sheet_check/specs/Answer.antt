@@ -3,8 +3,7 @@ use mathlib.Core.Path.{_≡_}
 use mathlib.Core.Bool.{_&&_}
 use lib.Dec.{eqb}
 use Rattle.tables.specs.Choice.{pick}
-use Rattle.tables.specs.Refusal.{andThen, callRefused}
-use Rattle.tables.specs.declared.refusal.Reason.the-variants.{SignalsDiffer, SizeDiffers}
+use Rattle.tables.specs.Refusal.{andThen, callRefused, numbered}
 use Rattle.tables.specs.declared.refusal.Outcome.{Outcome}
 use Rattle.tables.specs.declared.refusal.Outcome.the-variants.{Accepted, Refused}
 use Rattle.tables.specs.declared.row.Formula.{Formula}
@@ -26,10 +25,10 @@ use Rattle.sheet_check.specs.Finding.{FindingOf}
 
 -- 7: "Rule and take differ in `signals`." 9: "The sheet's rows or cycles differ from the normal form's or the take's."
 abbrev pub sevenOutcome : Formula → Trace → Outcome
-sevenOutcome f t = pick (eqb (f .signals) (t .signals)) Accepted (callRefused SignalsDiffer)
+sevenOutcome f t = pick (eqb (f .signals) (t .signals)) Accepted (callRefused (numbered 7))
 
 abbrev pub nineOutcome : Formula → Trace → Activation → Outcome
-nineOutcome f t a = pick (eqb (a .rows) (normalForm f Plain .rows) && eqb (a .cycles) (t .cycles)) Accepted (callRefused SizeDiffers)
+nineOutcome f t a = pick (eqb (a .rows) (normalForm f Plain .rows) && eqb (a .cycles) (t .cycles)) Accepted (callRefused (numbered 9))
 
 -- "Files go rule, take, sheet", each table "checked as if written out as its file"; "Then 7 to 10 in order"
 abbrev pub tablesOutcome : Formula → Trace → Activation → Outcome

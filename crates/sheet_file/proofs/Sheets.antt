@@ -20,6 +20,7 @@ use Rattle.tables.specs.declared.trace.Activation.{Activation}
 use Rattle.tables.specs.declared.trace.Line.{Line}
 use Rattle.tables.proofs.Places.{length-tabulate, tabulate-ext, tabulate-getD, take-tabulate, map-tabulate}
 use Rattle.tables.proofs.Bits.{bit-of-line}
+use Rattle.tables.proofs.Choices.{know}
 use Rattle.text.specs.Line.{isKey, keyedLine}
 use Rattle.text.specs.Count.{countForm}
 use Rattle.text.specs.Digits.{digitsForm}
@@ -27,11 +28,11 @@ use Rattle.text.specs.Body.{bodyLines}
 use Rattle.text.specs.Result.{Result, onLine, mapResult, outcomeOf}
 use Rattle.text.specs.Result.Result.{accepted, refused}
 use Rattle.text.specs.Written.{decimal, writtenLine, writtenBody, digitsText}
-use Rattle.text.proofs.DigitLines.{digits-written, digits-free, digits-read, text-length}
+use Rattle.text.proofs.DigitLines.{digits-written, digits-free, digits-read}
+use Rattle.text.proofs.Laws.{text-length, all-ok, ok-at, count-short, body-short}
 use Rattle.text.proofs.Bodies.{body-written, body-read}
 use Rattle.text.proofs.Answered.{accepted-table}
 use Rattle.text.proofs.RefusedLines.{RefusedBy, map-by, test-by, count-by, body-by, refused-line, outcome-line}
-use Rattle.text.proofs.Elements.{all-ok, ok-at, count-short, body-short}
 use Rattle.text.proofs.Headers.{map-accepted, test-accepted, outcome-accepted, count-then, count-in, count-below, count-above, count-range}
 use Rattle.sheet_file.specs.Sheet.{rowLine, activationOf, parseSheet, sheetAnswer}
 use Rattle.sheet_file.specs.declared.sheet.SheetAnswer.{SheetAnswer}
@@ -179,8 +180,7 @@ module _ (a : Activation) (full : length (a .lines) ≡ 128) where
       pub cycles-above : 256 < a .cycles → parseSheet (writtenSheet a) ≡ refused CountOutOfRange 3
       cycles-above l = from-cycles ∙ count-above (bytes "cycles") 1 256 CountOutOfRange 3 (FromBody (a .rows)) refl refl (a .cycles) (AfterCycles a) (omega arith) l h
 
-    -- what is read of a table in range: the same table, but for the bits that it does not use
-    pub in-range : 1 ≤ a .cycles → a .cycles ≤ 256 → parseSheet (writtenSheet a) ≡ accepted (activationOf (a .rows) (a .cycles) (rowsOf a))
+    in-range : 1 ≤ a .cycles → a .cycles ≤ 256 → parseSheet (writtenSheet a) ≡ accepted (activationOf (a .rows) (a .cycles) (rowsOf a))
     in-range some-c most-c =
         let n : length (rowsOf a) ≡ a .rows = rows-length ∙ omega arith in
         let each : (k : ℕ) → k < length (rowsOf a) → length (getD (rowsOf a) k none) ≡ a .cycles = λ k h. digits-length k ∙ omega arith in
@@ -189,11 +189,15 @@ module _ (a : Activation) (full : length (a .lines) ≡ 128) where
         body-written 122 (omega arith) (λ r. digitsForm (a .cycles)) digitsText (λ r ds. length ds ≡ a .cycles) (λ r ds h e. (digits-written (a .cycles) ds e, digits-free ds)) (rowsOf a) 1 4 (omega arith) ok in
         from-cycles ∙ (count-in (bytes "cycles") 1 256 CountOutOfRange 3 (FromBody (a .rows)) refl refl (a .cycles) (AfterCycles a) some-c most-c (omega arith) ∙ rw (rw n at b))
 
+-- WHAT IS READ OF A TABLE IN RANGE THAT IS WRITTEN: the same table, but for the bits that it does not use
+pub sheet-in-range : (a : Activation) → length (a .lines) ≡ 128 → InRange a → parseSheet (writtenSheet a) ≡ accepted (activationOf (a .rows) (a .cycles) (rowsOf a))
+sheet-in-range a full r = in-range a full (r .some-rows) (r .most-rows) (r .some-cycles) (r .most-cycles)
+
 -- AN ACTIVATION TABLE THAT IS WRITTEN IS READ BACK
 pub sheet-written : (a : Activation) → Valid a → parseSheet (writtenSheet a) ≡ accepted a
 sheet-written a v =
     let full : length (a .lines) ≡ 128 = ap length (v .unused) ∙ length-tabulate 128 0 (λ i. rowLine (getD (rowsOf a) i [])) in
-    in-range a full (v .range .some-rows) (v .range .most-rows) (v .range .some-cycles) (v .range .most-cycles)
+    sheet-in-range a full (v .range)
     ∙ ap (λ ls. accepted (record { rows = a .rows; cycles = a .cycles; lines = ls })) (sym (v .unused))
 
 -- TWO FILES THAT YIELD ONE TABLE ARE THE SAME
@@ -215,9 +219,13 @@ checked a e =
     let x = outcome-accepted 3 (parseSheet (writtenSheet a)) e in
     accepted-range a (x .0) (x .1)
 
+-- so the check tells both
+pub told : (a : Activation) {r : Outcome} → r ≡ outcomeOf 3 (parseSheet (writtenSheet a)) → (r ≡ outcomeOf 3 (parseSheet (writtenSheet a))) × (r ≡ Accepted → InRange a)
+told a e = (e, λ q. checked a (know e q))
+
 -- and one in range passes it
 pub checked-all : (a : Activation) → length (a .lines) ≡ 128 → InRange a → outcomeOf 3 (parseSheet (writtenSheet a)) ≡ Accepted
-checked-all a full r = ap (outcomeOf 3) (in-range a full (r .some-rows) (r .most-rows) (r .some-cycles) (r .most-cycles))
+checked-all a full r = ap (outcomeOf 3) (sheet-in-range a full r)
 
 -- ---- the line of a refusal: three lines of the header, up to 128 rows, and the line behind them
 refused-by : (file : List ℕ) → RefusedBy 132 (parseSheet file)

@@ -4,11 +4,11 @@ use mathlib.Core.Bool.{Bool, false}
 use mathlib.Core.List.{List, []}
 use lib.Dec.{ltb}
 use lib.ListN.{length, getD}
+use Rattle.tables.specs.Refusal.{numbered}
 use Rattle.tables.specs.Choice.{pick}
 use Rattle.tables.specs.Bytes.{bytes}
 use Rattle.tables.specs.Place.{placed}
 use Rattle.tables.specs.Bit.{lineOf}
-use Rattle.tables.specs.declared.refusal.Reason.the-variants.{TooLong, WrongFormat, CountOutOfRange}
 use Rattle.tables.specs.declared.trace.Activation.{Activation}
 use Rattle.tables.specs.declared.trace.Line.{Line}
 use Rattle.text.specs.Line.{isKey, keyedLine}
@@ -31,10 +31,10 @@ activationOf rows cycles rs = record { rows = rows; cycles = cycles; lines = pla
 -- cycle: that row's activator"; 122 is the letter z. "The file is longer than 65,536 bytes" is refused at line 0.
 unfoldable pub parseSheet : List ℕ → Result Activation
 parseSheet file =
-    pick (ltb 65536 (length file)) (refused TooLong 0)
-    (onLine 1 (keyedLine (isKey (bytes "format")) (countForm 1 1 WrongFormat)) file λ one after-format.
-    onLine 2 (keyedLine (isKey (bytes "rows")) (countForm 1 128 CountOutOfRange)) after-format λ rows after-rows.
-    onLine 3 (keyedLine (isKey (bytes "cycles")) (countForm 1 256 CountOutOfRange)) after-rows λ cycles body.
+    pick (ltb 65536 (length file)) (refused (numbered 1) 0)
+    (onLine 1 (keyedLine (isKey (bytes "format")) (countForm 1 1 (numbered 3))) file λ one after-format.
+    onLine 2 (keyedLine (isKey (bytes "rows")) (countForm 1 128 (numbered 4))) after-format λ rows after-rows.
+    onLine 3 (keyedLine (isKey (bytes "cycles")) (countForm 1 256 (numbered 4))) after-rows λ cycles body.
     mapResult (activationOf rows cycles) (bodyLines 122 (λ r. digitsForm cycles) rows 1 4 body))
 
 -- the code's answer: the sheet is file 3

@@ -2,6 +2,7 @@
 ghost use mathlib.Core.Path.{_≡_};
 ghost use Rattle.text.specs.Result.{outcomeOf};
 ghost use Rattle.sheet_file.specs.Sheet.{parseSheet};
+ghost use Rattle.sheet_file.specs.Valid.{InRange};
 ghost use Rattle.sheet_file.specs.Written.{writtenSheet};
 use tables::refusal::Outcome;
 use tables::refusal::Reason;
@@ -18,9 +19,10 @@ fn refuse(reason: Reason, line: usize) -> Outcome
     })
 }
 
-// An activation table in memory: what reading it, written out as its file, would answer.
+// An activation table in memory: what reading it, written out as its file, would answer; and what an accepted one is known to be.
 pub fn check_activation(activation: Activation) -> Outcome
     ensures { λ r. ⌜ r ≡ outcomeOf 3 (parseSheet (writtenSheet activation)) ⌝ }
+    ensures { λ r. ⌜ (r ≡ Outcome.Accepted → InRange activation) ⌝ }
 {
     let rows = activation.rows;
     let cycles = activation.cycles;

@@ -17,7 +17,7 @@ use Rattle.text.specs.Result.Result.{accepted}
 use Rattle.take_file.specs.Valid.{InRange as TraceInRange}
 use Rattle.sheet_file.specs.Sheet.{rowLine, activationOf, parseSheet}
 use Rattle.sheet_file.specs.Written.{rowsOf, writtenSheet}
-use Rattle.sheet_file.proofs.Sheets.{in-range}
+use Rattle.sheet_file.proofs.Sheets.{sheet-in-range}
 use Rattle.normal_form.specs.Form.{InNormalForm}
 use Rattle.truth.specs.Truth.{lineIn}
 use Rattle.sheet_maker.specs.Made.{IsMade}
@@ -57,6 +57,12 @@ module _ (g : NormalForm) (t : Trace) (a : Activation) (ok : InNormalForm g) (ra
   unfolding back digits
   made-read = (
     back,
-    in-range a (made .places) (omega (arith, made .rows, ok .some-rows)) (omega (arith, made .rows, ok .most-rows)) (omega (arith, made .cycles, range .some-cycles)) (omega (arith, made .cycles, range .most-cycles)),
+    sheet-in-range a (made .places)
+        (record {
+          some-rows = omega (arith, made .rows, ok .some-rows);
+          most-rows = omega (arith, made .rows, ok .most-rows);
+          some-cycles = omega (arith, made .cycles, range .some-cycles);
+          most-cycles = omega (arith, made .cycles, range .most-cycles);
+        }),
     back-made,
   )

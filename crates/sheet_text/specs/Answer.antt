@@ -4,8 +4,8 @@ use mathlib.Core.Path.{_≡_}
 use mathlib.Core.Bool.{Bool, true, false}
 use mathlib.Core.List.{List, [], _∷_, _++_}
 use lib.Dec.{eqb}
+use Rattle.tables.specs.Refusal.{numbered}
 use Rattle.tables.specs.Bytes.{bytes}
-use Rattle.tables.specs.declared.refusal.Reason.the-variants.{SignalsDiffer}
 use Rattle.tables.specs.declared.row.Formula.{Formula}
 use Rattle.tables.specs.declared.trace.Activation.{Activation}
 use Rattle.tables.specs.declared.trace.Trace.{Trace}
@@ -34,7 +34,7 @@ pub data IsMadeText (f : Formula) (t : Trace) (text : List ℕ) : Type 0 where
 -- 7: "Rule and take differ in `signals`", "file and line 0"
 abbrev pub IsPairText : Bool → Formula → Trace → List ℕ → Type 0
 IsPairText true f t text = IsMadeText f t text
-IsPairText false f t text = text ≡ refusalText (record { reason = SignalsDiffer; file = 0; line = 0 })
+IsPairText false f t text = text ≡ refusalText (record { reason = numbered 7; file = 0; line = 0 })
 
 -- a file that is turned back, or two tables
 abbrev pub IsText : Result Formula → Result Trace → List ℕ → Type 0

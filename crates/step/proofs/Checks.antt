@@ -14,7 +14,7 @@ use Rattle.tables.specs.declared.refusal.Outcome.{Outcome}
 use Rattle.tables.specs.declared.refusal.Outcome.the-variants.{Accepted}
 use Rattle.tables.specs.declared.row.NormalForm.{NormalForm}
 use Rattle.text.specs.Digits.{areDigits}
-use Rattle.text.proofs.Searching.{clash}
+use Rattle.tables.proofs.Choices.{clash}
 use Rattle.step.specs.Fitting.{Fitting}
 use Rattle.step.specs.Step.{formOutcome}
 

@@ -17,7 +17,7 @@ use Rattle.tables.specs.declared.row.Formula.{Formula}
 use Rattle.tables.specs.declared.row.NormalForm.{NormalForm}
 use Rattle.text.specs.Result.{outcomeOf}
 use Rattle.text.specs.Search.{part}
-use Rattle.text.proofs.Searching.{clash}
+use Rattle.tables.proofs.Choices.{clash}
 use Rattle.rule_file.specs.Rule.{parseRule}
 use Rattle.rule_file.specs.Valid.{InRange}
 use Rattle.rule_file.specs.Written.{writtenRule}

@@ -6,8 +6,7 @@ use lib.Dec.{eqb, leb}
 use lib.ListN.{length, getD, drop}
 use Rattle.tables.specs.Choice.{pick}
 use Rattle.tables.specs.Place.{tabulate}
-use Rattle.tables.specs.Refusal.{andThen, callRefused, onOutcome}
-use Rattle.tables.specs.declared.refusal.Reason.the-variants.{WrongForm, SignalsDiffer, SizeDiffers, ShortBuffer}
+use Rattle.tables.specs.Refusal.{andThen, callRefused, numbered, onOutcome}
 use Rattle.tables.specs.declared.refusal.Outcome.{Outcome}
 use Rattle.tables.specs.declared.refusal.Outcome.the-variants.{Accepted}
 use Rattle.tables.specs.declared.row.Formula.{Formula}
@@ -50,10 +49,10 @@ module _ (g : NormalForm) (pendings activators signals : List ℕ) where
   -- line 0"
   abbrev pub formOutcome : ℕ → Outcome
   formOutcome room =
-      andThen (pick ((areDigits pendings && areDigits activators) && areDigits signals) Accepted (callRefused WrongForm))
-      (andThen (pick (eqb (length signals) (g .signals)) Accepted (callRefused SignalsDiffer))
-      (andThen (pick (eqb (length pendings) (g .rows) && eqb (length activators) (g .rows)) Accepted (callRefused SizeDiffers))
-      (pick (leb (3 * g .rows) room) Accepted (callRefused ShortBuffer))))
+      andThen (pick ((areDigits pendings && areDigits activators) && areDigits signals) Accepted (callRefused (numbered 2)))
+      (andThen (pick (eqb (length signals) (g .signals)) Accepted (callRefused (numbered 7)))
+      (andThen (pick (eqb (length pendings) (g .rows) && eqb (length activators) (g .rows)) Accepted (callRefused (numbered 9)))
+      (pick (leb (3 * g .rows) room) Accepted (callRefused (numbered 10)))))
 
 -- ---- the service
 

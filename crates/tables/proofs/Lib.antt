@@ -4,3 +4,5 @@ pub mod KindTable
 pub mod Marks
 pub mod UsedRows
 pub mod Outcomes
+pub mod Choices
+pub mod Numbers

@@ -5,3 +5,4 @@ pub mod Kind
 pub mod Place
 pub mod Bit
 pub mod Used
+pub mod Only

@@ -1,11 +1,14 @@
 -- 01, "Why a file is turned back": the number of each reason, and checks that refuse. Assumes nothing.
 use Prim.Native.Nat.{ℕ}
+use lib.Dec.{eqb}
+use Rattle.tables.specs.Choice.{pick}
 use Rattle.tables.specs.declared.refusal.Reason.{Reason}
 use Rattle.tables.specs.declared.refusal.Refusal.{Refusal}
 use Rattle.tables.specs.declared.refusal.Outcome.{Outcome}
 use Rattle.tables.specs.declared.refusal.Outcome.the-variants.{Accepted, Refused}
 use Rattle.tables.specs.declared.refusal.Reason.the-variants.{TooLong, WrongForm, WrongFormat, CountOutOfRange, BadReference, BadLoop, SignalsDiffer, WrongEnding, SizeDiffers, ShortBuffer}
 
+-- the list's numbers
 abbrev pub number : Reason → ℕ
 number TooLong = 1
 number WrongForm = 2
@@ -17,6 +20,19 @@ number SignalsDiffer = 7
 number WrongEnding = 8
 number SizeDiffers = 9
 number ShortBuffer = 10
+
+-- the reason that the list gives this number: the definitions of what a service answers name their refusals by it
+abbrev pub numbered : ℕ → Reason
+numbered n =
+    pick (eqb n (number TooLong)) TooLong
+    (pick (eqb n (number WrongForm)) WrongForm
+    (pick (eqb n (number WrongFormat)) WrongFormat
+    (pick (eqb n (number CountOutOfRange)) CountOutOfRange
+    (pick (eqb n (number BadReference)) BadReference
+    (pick (eqb n (number BadLoop)) BadLoop
+    (pick (eqb n (number SignalsDiffer)) SignalsDiffer
+    (pick (eqb n (number WrongEnding)) WrongEnding
+    (pick (eqb n (number SizeDiffers)) SizeDiffers ShortBuffer))))))))
 
 -- the first of two checks that refuses
 abbrev pub andThen : Outcome → Outcome → Outcome

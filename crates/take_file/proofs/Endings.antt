@@ -18,7 +18,8 @@ use Rattle.text.specs.Result.{Parsed, Next}
 use Rattle.text.specs.Result.Parsed.{good, bad}
 use Rattle.text.specs.Written.{decimal}
 use Rattle.text.specs.declared.number.Number.the-variants.{Is, Not}
-use Rattle.text.proofs.Searching.{clash, each-pick, same-refl, same-eq}
+use Rattle.tables.proofs.Choices.{clash, each-pick}
+use Rattle.text.proofs.Searching.{same-refl, same-eq}
 use Rattle.text.proofs.Numbers.{number-written, number-read, each-number}
 use Rattle.text.proofs.Lines.{Free, line-inside}
 use Rattle.text.proofs.Headers.{free, free-below, decimal-inj, decimal-word}

@@ -29,11 +29,12 @@ use Rattle.text.specs.Result.{Result, onParsed, onLine, mapResult, outcomeOf}
 use Rattle.text.specs.Result.Parsed.{bad}
 use Rattle.text.specs.Result.Result.{accepted, refused}
 use Rattle.text.specs.Written.{decimal, writtenLine, writtenBody, digitsText}
-use Rattle.text.proofs.Searching.{clash, same-refl, same-eq}
+use Rattle.tables.proofs.Choices.{clash, know}
+use Rattle.text.proofs.Searching.{same-refl, same-eq}
 use Rattle.text.proofs.Lines.{line-step}
-use Rattle.text.proofs.DigitLines.{digits-written, digits-free, digits-read, text-length}
+use Rattle.text.proofs.DigitLines.{digits-written, digits-free, digits-read}
+use Rattle.text.proofs.Laws.{text-length, all-ok, ok-at, decimal-short, line-length, count-short, body-short}
 use Rattle.text.proofs.Bodies.{body-written, body-read}
-use Rattle.text.proofs.Elements.{all-ok, ok-at, decimal-short, line-length, count-short, body-short}
 use Rattle.text.proofs.Answered.{accepted-table}
 use Rattle.text.proofs.RefusedLines.{RefusedBy, map-by, test-by, line-by, count-by, body-by, refused-line, outcome-line}
 use Rattle.text.proofs.Headers.{free, parsed-accepted, map-accepted, test-accepted, outcome-accepted, line-then, count-then, count-in, count-below, count-above, count-range}
@@ -258,6 +259,10 @@ pub checked : (t : Trace) → outcomeOf 2 (parseTake (writtenTake t)) ≡ Accept
 checked t e =
     let x = outcome-accepted 2 (parseTake (writtenTake t)) e in
     accepted-range t (x .0) (x .1)
+
+-- so the check tells both
+pub told : (t : Trace) {r : Outcome} → r ≡ outcomeOf 2 (parseTake (writtenTake t)) → (r ≡ outcomeOf 2 (parseTake (writtenTake t))) × (r ≡ Accepted → InRange t)
+told t e = (e, λ q. checked t (know e q))
 
 -- and a trace in range passes it
 pub checked-all : (t : Trace) → length (t .lines) ≡ 32 → InRange t → outcomeOf 2 (parseTake (writtenTake t)) ≡ Accepted

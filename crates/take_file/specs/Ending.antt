@@ -2,10 +2,10 @@
 use Prim.Native.Nat.{ℕ}
 use mathlib.Core.List.{List}
 use lib.Dec.{leb}
+use Rattle.tables.specs.Refusal.{numbered}
 use Rattle.tables.specs.Choice.{pick}
 use Rattle.tables.specs.Bytes.{bytes, sameBytes}
 use Rattle.tables.specs.declared.refusal.Reason.{Reason}
-use Rattle.tables.specs.declared.refusal.Reason.the-variants.{WrongForm, BadLoop}
 use Rattle.tables.specs.declared.trace.Ending.{Ending}
 use Rattle.tables.specs.declared.trace.Ending.the-variants.{Open, Loop}
 use Rattle.text.specs.Number.{numberOf, onNumber}
@@ -18,8 +18,8 @@ use Rattle.take_file.specs.declared.ending.EndingLine.the-variants.{Endi
 unfoldable pub endingValue : ℕ → List ℕ → Parsed Ending
 endingValue cycles value =
     pick (sameBytes value (bytes "none")) (good Open)
-    (onNumber (numberOf value) (bad WrongForm) λ n.
-    pick (leb cycles n) (bad BadLoop) (good (Loop n)))
+    (onNumber (numberOf value) (bad (numbered 2)) λ n.
+    pick (leb cycles n) (bad (numbered 6)) (good (Loop n)))
 
 -- what each case of the code's answer says
 abbrev pub endingLineAs : EndingLine → Parsed (Next Ending)
@@ -27,5 +27,5 @@ endingLineAs (EndingRead e i) = good (record { value = e; next = i })
 endingLineAs (Wrong r) = bad r
 
 abbrev pub reasonOf : EndingLine → Reason
-reasonOf (EndingRead e i) = WrongForm
+reasonOf (EndingRead e i) = numbered 2
 reasonOf (Wrong r) = r

@@ -4,11 +4,11 @@ use mathlib.Core.Bool.{Bool, false}
 use mathlib.Core.List.{List, []}
 use lib.Dec.{ltb}
 use lib.ListN.{length, getD}
+use Rattle.tables.specs.Refusal.{numbered}
 use Rattle.tables.specs.Choice.{pick}
 use Rattle.tables.specs.Bytes.{bytes}
 use Rattle.tables.specs.Place.{tabulate}
 use Rattle.tables.specs.Bit.{lineOf}
-use Rattle.tables.specs.declared.refusal.Reason.the-variants.{TooLong, WrongFormat, CountOutOfRange}
 use Rattle.tables.specs.declared.trace.Ending.{Ending}
 use Rattle.tables.specs.declared.trace.Ending.the-variants.{Open}
 use Rattle.tables.specs.declared.trace.Line.{Line}
@@ -38,10 +38,10 @@ traceOf signals cycles ending cs = record { signals = signals; cycles = cycles; 
 -- signal, signal 1 first"; 99 is the letter c. "The file is longer than 65,536 bytes" is refused at line 0.
 unfoldable pub parseTake : List ℕ → Result Trace
 parseTake file =
-    pick (ltb 65536 (length file)) (refused TooLong 0)
-    (onLine 1 (keyedLine (isKey (bytes "format")) (countForm 1 1 WrongFormat)) file λ one after-format.
-    onLine 2 (keyedLine (isKey (bytes "signals")) (countForm 1 32 CountOutOfRange)) after-format λ signals after-signals.
-    onLine 3 (keyedLine (isKey (bytes "cycles")) (countForm 1 256 CountOutOfRange)) after-signals λ cycles after-cycles.
+    pick (ltb 65536 (length file)) (refused (numbered 1) 0)
+    (onLine 1 (keyedLine (isKey (bytes "format")) (countForm 1 1 (numbered 3))) file λ one after-format.
+    onLine 2 (keyedLine (isKey (bytes "signals")) (countForm 1 32 (numbered 4))) after-format λ signals after-signals.
+    onLine 3 (keyedLine (isKey (bytes "cycles")) (countForm 1 256 (numbered 4))) after-signals λ cycles after-cycles.
     onLine 4 (keyedLine (isKey (bytes "loop")) (endingValue cycles)) after-cycles λ ending body.
     mapResult (traceOf signals cycles ending) (bodyLines 99 (λ c. digitsForm signals) cycles 0 5 body))
 

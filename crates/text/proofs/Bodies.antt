@@ -15,7 +15,7 @@ use Rattle.text.specs.Result.Parsed.{good, bad}
 use Rattle.text.specs.Result.Result.{accepted, refused}
 use Rattle.text.specs.Body.{bodyLines, EachAt}
 use Rattle.text.specs.Written.{decimal, writtenLine, writtenBody}
-use Rattle.text.proofs.Searching.{clash, each-pick}
+use Rattle.tables.proofs.Choices.{clash, each-pick}
 use Rattle.text.proofs.Lines.{Free, free-decimal, no-digit-below, no-digit-above, line-step, LineOf, line-read, numbered-written, numbered-read}
 
 pub map-map : {A B C : Type 0} (f : B → C) (g : A → B) (r : Result A) → mapResult f (mapResult g r) ≡ mapResult (λ x. f (g x)) r

@@ -17,7 +17,7 @@ use Rattle.text.specs.Written.{decimal}
 use Rattle.text.specs.declared.line.Counted.{Counted}
 use Rattle.text.specs.declared.line.Counted.the-variants.{Count}
 use Rattle.text.specs.declared.number.Number.the-variants.{Is}
-use Rattle.text.proofs.Searching.{clash, each-pick}
+use Rattle.tables.proofs.Choices.{clash, each-pick}
 use Rattle.text.proofs.Numbers.{number-written, number-read, each-number}
 use Rattle.text.proofs.Lines.{line-inside, line-read}
 

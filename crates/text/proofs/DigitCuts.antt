@@ -26,7 +26,8 @@ use Rattle.text.specs.declared.number.Number.{Number}
 use Rattle.text.specs.declared.number.Number.the-variants.{Is, Not}
 use Rattle.text.specs.declared.search.Found.{Found}
 use Rattle.text.specs.declared.search.Found.the-variants.{At, Nothing}
-use Rattle.text.proofs.Searching.{clash, hit, each-pick, further-inv, pick-both}
+use Rattle.tables.proofs.Choices.{clash, each-pick, pick-both}
+use Rattle.text.proofs.Searching.{hit, further-inv}
 use Rattle.text.proofs.Numbers.{each-number}
 use Rattle.text.proofs.Lines.{Free, cut-found, cut-at, cut-within, cut-written, front, front-length, keyed-absent, keyed-other, keyed-bad, keyed-good}
 use Rattle.text.proofs.DigitLines.{part-length, form-length, form-other, form-digits, text-of-digits, digits-free}

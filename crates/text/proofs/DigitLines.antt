@@ -20,7 +20,7 @@ use Rattle.text.specs.declared.digits.Digits.the-variants.{At, Wrong}
 use Rattle.text.specs.Written.{digitsText}
 use Rattle.text.specs.Result.{Parsed}
 use Rattle.text.specs.Result.Parsed.{good, bad}
-use Rattle.text.proofs.Searching.{clash, each-pick}
+use Rattle.tables.proofs.Choices.{clash, each-pick}
 use Rattle.text.proofs.Lines.{Free}
 
 -- one digit, and one more in front of others
@@ -156,6 +156,3 @@ digits-good t count rest e d = sym e ∙ ap (digitsAt rest) d
 pub digits-bad : (t : List ℕ → Bool) (count : ℕ) (rest : List ℕ) {r : Digits} → digitsAt rest r ≡ keyedLine t (digitsForm count) rest → r ≡ Wrong
     → keyedLine t (digitsForm count) rest ≡ bad WrongForm
 digits-bad t count rest e d = sym e ∙ ap (digitsAt rest) d
-
-pub text-length : (ds : List Bool) → length (digitsText ds) ≡ length ds
-text-length ds = length-map {B = ℕ} ds (λ b. pick b 49 48)

@@ -19,7 +19,8 @@ use Rattle.text.specs.Result.Result.{accepted, refused}
 use Rattle.text.specs.Written.{decimalIn, decimal, writtenLine}
 use Rattle.text.specs.declared.line.Counted.{Counted}
 use Rattle.text.specs.declared.line.Counted.the-variants.{Count, Wrong}
-use Rattle.text.proofs.Searching.{clash, same-refl, same-eq}
+use Rattle.tables.proofs.Choices.{clash}
+use Rattle.text.proofs.Searching.{same-refl, same-eq}
 use Rattle.text.proofs.Numbers.{decimal-small, decimal-large, decimal-length}
 use Rattle.text.proofs.Lines.{Free, free-append, line-step, line-read}
 use Rattle.text.proofs.Counts.{count-form, count-written, count-read}

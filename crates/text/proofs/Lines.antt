@@ -25,7 +25,8 @@ use Rattle.text.specs.declared.line.Cut.the-variants.{Line, Absent}
 use Rattle.text.specs.declared.number.Number.{Number}
 use Rattle.text.specs.declared.number.Number.the-variants.{Is, Not}
 use Rattle.text.specs.declared.search.Found.the-variants.{At, Nothing}
-use Rattle.text.proofs.Searching.{clash, hit, each-found, each-pick, further-inv, pick-both}
+use Rattle.tables.proofs.Choices.{clash, each-pick, pick-both}
+use Rattle.text.proofs.Searching.{hit, each-found, further-inv}
 use Rattle.text.proofs.Numbers.{number-written, number-read, decimal-small, decimal-large, tenth}
 
 -- ---- a byte that does not stand in a text

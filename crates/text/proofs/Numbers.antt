@@ -17,7 +17,7 @@ use Rattle.text.specs.Number.{digitsFrom, digitsOf, numberOf, onNumber}
 use Rattle.text.specs.Written.{decimalIn, decimal}
 use Rattle.text.specs.declared.number.Number.{Number}
 use Rattle.text.specs.declared.number.Number.the-variants.{Is, Not}
-use Rattle.text.proofs.Searching.{clash}
+use Rattle.tables.proofs.Choices.{clash}
 
 -- the digits of s, at most five, are read up to i, with the value v
 pub record DigitsAt (s : List ℕ) (v i : ℕ) : Type 0 where

@@ -17,7 +17,7 @@ use Rattle.text.specs.Result.{Parsed, Next, Result, onParsed, onLine, ma
 use Rattle.text.specs.Result.Parsed.{good, bad}
 use Rattle.text.specs.Result.Result.{accepted, refused}
 use Rattle.text.specs.Body.{bodyLines}
-use Rattle.text.proofs.Searching.{clash}
+use Rattle.tables.proofs.Choices.{clash}
 use Rattle.text.proofs.Lines.{line-read}
 use Rattle.text.proofs.Counts.{count-read}
 

@@ -12,21 +12,10 @@ use lib.Seq.{drop-cons, drop-length, take-all}
 use borrow.Author.Tests.{eq-eqb, ne-eqb, eqb-true}
 use Rattle.tables.specs.Choice.{pick}
 use Rattle.tables.specs.Bytes.{sameBytes}
+use Rattle.tables.proofs.Choices.{clash, pick-both}
 use Rattle.text.specs.Search.{firstWhere, further, onFound}
 use Rattle.text.specs.declared.search.Found.{Found}
 use Rattle.text.specs.declared.search.Found.the-variants.{At, Nothing}
-
--- what a call ensures of its result, and what is known of the result
-pub know : {A : Type 0} {r a b : A} → r ≡ a → r ≡ b → a ≡ b
-know e d = sym e ∙ d
-
--- a part that goes to the end
-pub rest-part : {A : Type 0} (k : ℕ) (s : List A) → take (length s - k) (drop k s) ≡ drop k s
-rest-part k s = take-all (length s - k) (drop k s) (omega (arith, length-drop k s))
-
--- two constructors are never equal
-pub clash : {A : Type 0} → _≡_ {A = ℕ} 0 1 → A
-clash z = absurd (omega arith)
 
 -- ---- the first element that passes a test
 
@@ -102,10 +91,6 @@ pub each-found : {A : Type 0} (P : A → Type 0) (f : Found) {a : A} {g : ℕ �
 each-found P (At i) p q = q i refl
 each-found P Nothing p q = p
 
-pub each-pick : {A : Type 0} (P : A → Type 0) (t : Bool) {a b : A} → (t ≡ true → P a) → (t ≡ false → P b) → P (pick t a b)
-each-pick P true p q = p refl
-each-pick P false p q = q refl
-
 -- ---- sameness
 
 -- two lists of one length are the same up to place i
@@ -157,10 +142,6 @@ pub same-refl : (s : List ℕ) → sameBytes s s ≡ true
 unfolding sameBytes
 same-refl [] = refl
 same-refl (x ∷ xs) = rw (eq-eqb x x refl, same-refl xs)
-
-pub pick-both : (t b : Bool) → pick t b false ≡ true → (t ≡ true) × (b ≡ true)
-pick-both true b e = (refl, e)
-pick-both false b e = clash (cc)
 
 pub same-eq : (a b : List ℕ) → sameBytes a b ≡ true → a ≡ b
 unfolding sameBytes

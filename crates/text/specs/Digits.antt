@@ -5,8 +5,8 @@ use mathlib.Core.List.{List, [], _∷_, map}
 use mathlib.Core.Path.{_≡_}
 use lib.Dec.{ltb, eqb}
 use lib.ListN.{length}
+use Rattle.tables.specs.Refusal.{numbered}
 use Rattle.tables.specs.Choice.{pick}
-use Rattle.tables.specs.declared.refusal.Reason.the-variants.{WrongForm}
 use Rattle.text.specs.Search.{part}
 use Rattle.text.specs.Result.{Parsed, Next}
 use Rattle.text.specs.Result.Parsed.{good, bad}
@@ -25,12 +25,12 @@ digitsIn value = map (λ d. eqb d 49) value
 -- so many digits
 unfoldable pub digitsForm : ℕ → List ℕ → Parsed (List Bool)
 digitsForm count value =
-    pick (eqb (length value) count) (pick (areDigits value) (good (digitsIn value)) (bad WrongForm)) (bad WrongForm)
+    pick (eqb (length value) count) (pick (areDigits value) (good (digitsIn value)) (bad (numbered 2))) (bad (numbered 2))
 
 -- what each case of the code's answer says of the bytes left
 abbrev pub digitsAt : List ℕ → Digits → Parsed (Next (List Bool))
 digitsAt rest (At from end) = good (record { value = digitsIn (part from end rest); next = end + 1 })
-digitsAt rest Wrong = bad WrongForm
+digitsAt rest Wrong = bad (numbered 2)
 
 -- and where the digits stand: so many, before the line feed
 abbrev pub DigitsWithin : List ℕ → ℕ → Digits → Type 0

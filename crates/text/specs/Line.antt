@@ -5,9 +5,9 @@ use mathlib.Core.Bool.{Bool, false}
 use mathlib.Core.List.{List, [], _∷_}
 use lib.Dec.{eqb}
 use lib.ListN.{take}
+use Rattle.tables.specs.Refusal.{numbered}
 use Rattle.tables.specs.Choice.{pick}
 use Rattle.tables.specs.Bytes.{sameBytes}
-use Rattle.tables.specs.declared.refusal.Reason.the-variants.{WrongForm}
 use Rattle.text.specs.Search.{firstOf, onFound, part}
 use Rattle.text.specs.Number.{numberOf, onNumber}
 use Rattle.text.specs.Result.{Parsed, Next, onParsed}
@@ -38,7 +38,7 @@ isNumbered letter n (x ∷ xs) = pick (eqb x letter) (onNumber (numberOf xs) fal
 -- the first line of the bytes left: its key passes a test, and its value stands for something
 unfoldable pub keyedLine : {A : Type 0} → (List ℕ → Bool) → (List ℕ → Parsed A) → List ℕ → Parsed (Next A)
 keyedLine key form rest =
-    onCut (cutOf rest) (bad WrongForm) λ equals end.
+    onCut (cutOf rest) (bad (numbered 2)) λ equals end.
     pick (key (take equals rest))
     (onParsed (form (part (equals + 1) end rest)) bad λ x. good (record { value = x; next = end + 1 }))
-    (bad WrongForm)
+    (bad (numbered 2))

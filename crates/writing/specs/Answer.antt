@@ -3,15 +3,15 @@ use Prim.Native.Nat.{ℕ}
 use mathlib.Core.List.{List}
 use lib.Dec.{leb}
 use lib.ListN.{length}
+use Rattle.tables.specs.Refusal.{numbered}
 use Rattle.tables.specs.Choice.{pick}
-use Rattle.tables.specs.declared.refusal.Reason.the-variants.{ShortBuffer}
 use Rattle.tables.specs.declared.refusal.Refusal.{Refusal}
 use Rattle.writing.specs.declared.answer.Bytes.{Bytes}
 use Rattle.writing.specs.declared.answer.Bytes.the-variants.{Count, Refused}
 
 -- "A lent output buffer is shorter than the output": 10, file and line 0
 abbrev pub tooShort : Refusal
-tooShort = record { reason = ShortBuffer; file = 0; line = 0 }
+tooShort = record { reason = numbered 10; file = 0; line = 0 }
 
 -- the output's length where it fits
 abbrev pub writtenAnswer : List ℕ → List ℕ → Bytes

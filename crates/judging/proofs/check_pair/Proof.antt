@@ -1,5 +1,4 @@
 use mathlib.Core.Path.{_≡_, refl, sym, ap, _∙_}
-use Rattle.take_file.proofs.Takes.{checked}
 use Rattle.tables.proofs.Outcomes.{stops, goes, refused-only, differ, agree}
 use borrow.Author.Needs.{needs}
 use Rattle.judging.proofs.check_pair.Statement.{statement}
@@ -9,13 +8,13 @@ returns : tie.Need-returns
 returns c = (stops _ (c .before .before .check-formula .ensures .0) (c .enum-told2 .given .1), λ e. refused-only (c .enum-told2 .given .1) e)
 
 returns-2 : tie.Need-returns-2
-returns-2 c = (stops _ (c .before .before .check-trace .ensures) (c .enum-told4 .given .1) ∙ goes _ (c .before .before .before .before .before .check-formula .ensures .0) (c .before .before .before .enum-told .given .1), λ e. refused-only (c .enum-told4 .given .1) e)
+returns-2 c = (stops _ (c .before .before .check-trace .ensures .0) (c .enum-told4 .given .1) ∙ goes _ (c .before .before .before .before .before .check-formula .ensures .0) (c .before .before .before .enum-told .given .1), λ e. refused-only (c .enum-told4 .given .1) e)
 
 returns-3 : tie.Need-returns-3
-returns-3 c = (c .call-refused .ensures ∙ differ (c .before .before .before .before .before .before .before .before .before .before .args .formula .signals) (c .before .before .before .before .before .before .before .before .before .before .args .trace .signals) (c .before .if1 .taken) ∙ goes _ (c .before .before .before .before .before .before .check-trace .ensures) (c .before .before .before .before .enum-told3 .given .1) ∙ goes _ (c .before .before .before .before .before .before .before .before .before .check-formula .ensures .0) (c .before .before .before .before .before .before .before .enum-told .given .1), λ e. refused-only (c .call-refused .ensures) e)
+returns-3 c = (c .call-refused .ensures ∙ differ (c .before .before .before .before .before .before .before .before .before .before .args .formula .signals) (c .before .before .before .before .before .before .before .before .before .before .args .trace .signals) (c .before .if1 .taken) ∙ goes _ (c .before .before .before .before .before .before .check-trace .ensures .0) (c .before .before .before .before .enum-told3 .given .1) ∙ goes _ (c .before .before .before .before .before .before .before .before .before .check-formula .ensures .0) (c .before .before .before .before .before .before .before .enum-told .given .1), λ e. refused-only (c .call-refused .ensures) e)
 
 returns-4 : tie.Need-returns-4
-returns-4 c = (agree (c .before .before .before .before .before .before .before .before .before .args .formula .signals) (c .before .before .before .before .before .before .before .before .before .args .trace .signals) (c .if1 .left) ∙ goes _ (c .before .before .before .before .before .check-trace .ensures) (c .before .before .before .enum-told3 .given .1) ∙ goes _ (c .before .before .before .before .before .before .before .before .check-formula .ensures .0) (c .before .before .before .before .before .before .enum-told .given .1), λ e. (c .before .before .before .before .before .before .before .before .check-formula .ensures .1 (c .before .before .before .before .before .before .enum-told .given .1), checked (c .before .before .before .before .before .before .before .before .before .args .trace) (sym (c .before .before .before .before .before .check-trace .ensures) ∙ c .before .before .before .enum-told3 .given .1)))
+returns-4 c = (agree (c .before .before .before .before .before .before .before .before .before .args .formula .signals) (c .before .before .before .before .before .before .before .before .before .args .trace .signals) (c .if1 .left) ∙ goes _ (c .before .before .before .before .before .check-trace .ensures .0) (c .before .before .before .enum-told3 .given .1) ∙ goes _ (c .before .before .before .before .before .before .before .before .check-formula .ensures .0) (c .before .before .before .before .before .before .enum-told .given .1), λ e. (c .before .before .before .before .before .before .before .before .check-formula .ensures .1 (c .before .before .before .before .before .before .enum-told .given .1), c .before .before .before .before .before .check-trace .ensures .1 (c .before .before .before .enum-told3 .given .1)))
 
 pub check-pair-spec : {M : Type 1} → statement M
 check-pair-spec =

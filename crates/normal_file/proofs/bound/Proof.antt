@@ -1,5 +1,5 @@
 use mathlib.Core.Path.{sym}
-use Rattle.text.proofs.Searching.{know}
+use Rattle.tables.proofs.Choices.{know}
 use borrow.Author.Needs.{needs}
 use Rattle.normal_file.proofs.bound.Statement.{statement}
 use Rattle.normal_file.proofs.bound.Tie as tie

@@ -2,7 +2,7 @@ use Prim.Native.Nat.{_+_, _≤_}
 use mathlib.Core.Path.{refl, sym, ap, _∙_}
 use lib.ListN.{length}
 use lib.Seq.{length-take-le}
-use Rattle.text.proofs.Searching.{know}
+use Rattle.tables.proofs.Choices.{know}
 use Rattle.normal_form.proofs.Ranges.{form-normal}
 use Rattle.writing.specs.Normal.{writtenNormal}
 use Rattle.writing.proofs.Texts.{wrote-within, wrote-start}

@@ -1,7 +1,8 @@
 use mathlib.Core.Path.{_∙_, sym, ap}
 use Rattle.tables.specs.Kind.{kinds, noKind, numbersIn}
 use Rattle.tables.specs.declared.kind.Kind.{Kind}
-use Rattle.text.proofs.Searching.{know, found}
+use Rattle.tables.proofs.Choices.{know}
+use Rattle.text.proofs.Searching.{found}
 use Rattle.rule_row.specs.Row.{kindNamed, formAs}
 use Rattle.rule_row.specs.declared.RowForm.the-variants.{Form}
 use Rattle.rule_row.proofs.RowValues.{form-unknown, form-miscounted, form-counted}

@@ -1,6 +1,6 @@
 use mathlib.Core.Path.{_∙_}
 use borrow.Author.Tests.{not-true, not-false}
-use Rattle.text.proofs.Searching.{know}
+use Rattle.tables.proofs.Choices.{know}
 use borrow.Author.Needs.{needs}
 use Rattle.rule_row.proofs.in_range.Statement.{statement}
 use Rattle.rule_row.proofs.in_range.Tie as tie

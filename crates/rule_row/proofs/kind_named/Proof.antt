@@ -9,7 +9,8 @@ use Rattle.tables.specs.Bytes.{sameBytes}
 use Rattle.tables.specs.Kind.{kinds, kindAt, noKind, wordOf}
 use Rattle.tables.specs.declared.kind.Kind.{Kind}
 use Rattle.tables.proofs.KindTable.{word-fits}
-use Rattle.text.proofs.Searching.{FirstAt, first-starts, first-hit, first-miss, first-none, know}
+use Rattle.tables.proofs.Choices.{know}
+use Rattle.text.proofs.Searching.{FirstAt, first-starts, first-hit, first-miss, first-none}
 use Rattle.rule_row.specs.Row.{kindNamed}
 use Rattle.rule_row.proofs.kind_named.Statement.{statement}
 use Rattle.rule_row.proofs.kind_named.Tie as tie

@@ -1,7 +1,8 @@
 use mathlib.Core.Path.{_∙_}
 use native.Mathlib.Omega.{arith}
 use lib.ListN.{length-take}
-use Rattle.text.proofs.Searching.{know, found, rest-part}
+use Rattle.tables.proofs.Choices.{know, rest-part}
+use Rattle.text.proofs.Searching.{found}
 use Rattle.rule_row.specs.Row.{rowForm}
 use borrow.Author.Needs.{needs}
 use Rattle.rule_row.proofs.row_form.Statement.{statement}

@@ -4,7 +4,7 @@ use mathlib.Core.Path.{_∙_, sym, ap}
 use native.Mathlib.Omega.{arith}
 use lib.ListN.{length-take}
 use borrow.Author.Tests.{not-true, not-false}
-use Rattle.text.proofs.Searching.{know}
+use Rattle.tables.proofs.Choices.{know}
 use Rattle.text.proofs.Lines.{cut-known, keyed-absent, keyed-other, keyed-bad, keyed-good}
 use Rattle.rule_row.specs.Row.{formAs, rowLineAs}
 use Rattle.rule_row.specs.declared.RowLine.the-variants.{Row as RowRead}

@@ -2,7 +2,7 @@ use mathlib.Core.Path.{sym, ap, _∙_}
 use mathlib.Core.Bool.{_&&_}
 use lib.Dec.{eqb}
 use Rattle.tables.specs.declared.row.NormalForm.{NormalForm}
-use Rattle.text.proofs.Searching.{know}
+use Rattle.tables.proofs.Choices.{know}
 use Rattle.normal_form.specs.declared.sign.Sign.the-variants.{Plain}
 use Rattle.normal_form.proofs.Ranges.{form-normal}
 use Rattle.sheet_check.proofs.Answers.{refused-answer, nine-answer, found-answer}

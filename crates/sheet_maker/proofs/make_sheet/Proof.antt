@@ -1,6 +1,6 @@
 use mathlib.Core.Path.{_∙_}
 use native.Mathlib.Omega.{arith}
-use Rattle.text.proofs.Searching.{know}
+use Rattle.tables.proofs.Choices.{know}
 use Rattle.sheet_maker.proofs.Answers.{refused-makes, some-rows, most-rows, most-cycles, sheet-makes, none-makes}
 use borrow.Author.Needs.{needs}
 use Rattle.sheet_maker.proofs.make_sheet.Statement.{statement}

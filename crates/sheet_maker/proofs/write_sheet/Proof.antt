@@ -1,5 +1,5 @@
 use mathlib.Core.Path.{ap, _∙_}
-use Rattle.text.proofs.Searching.{know}
+use Rattle.tables.proofs.Choices.{know}
 use Rattle.writing.proofs.Texts.{wrote-within, wrote-start}
 use Rattle.writing.proofs.Answers.{fits-answer, short-answer, text-left}
 use Rattle.sheet_maker.specs.Answer.{answerOf}

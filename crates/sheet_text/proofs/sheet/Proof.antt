@@ -1,6 +1,6 @@
 use mathlib.Core.Path.{sym, _∙_}
 use lib.Seq.{length-take-le}
-use Rattle.text.proofs.Searching.{know}
+use Rattle.tables.proofs.Choices.{know}
 use Rattle.writing.proofs.Texts.{wrote-within, wrote-start}
 use Rattle.writing.proofs.Answers.{fits-answer, short-answer, text-left}
 use borrow.Author.Needs.{needs}

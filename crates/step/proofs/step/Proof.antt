@@ -1,7 +1,7 @@
 use mathlib.Core.Path.{_∙_}
 use Rattle.normal_form.specs.declared.sign.Sign.the-variants.{Plain}
 use Rattle.normal_form.proofs.Ranges.{form-normal}
-use Rattle.text.proofs.Searching.{know}
+use Rattle.tables.proofs.Choices.{know}
 use Rattle.step.proofs.Checks.{accepted-fits}
 use Rattle.step.proofs.Answers.{refused-both, own-refused, call-outcome, stepped}
 use borrow.Author.Needs.{needs}

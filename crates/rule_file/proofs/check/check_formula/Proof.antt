@@ -6,7 +6,7 @@ use Rattle.rule_row.specs.Written.{writtenRow}
 use mathlib.Core.Path.{_∙_, sym, ap}
 use lib.ListN.{length-map}
 use Rattle.text.specs.Result.{outcomeOf}
-use Rattle.text.proofs.Searching.{clash}
+use Rattle.tables.proofs.Choices.{clash}
 use Rattle.text.proofs.Bodies.{outcome-map}
 use Rattle.rule_file.specs.Rule.{formulaOf}
 use Rattle.rule_file.proofs.Rules.{used-most, signals-few, signals-many, rows-few, rows-many, after-rows}

@@ -1,9 +1,8 @@
-use Rattle.text.proofs.Searching.{clash}
+use Rattle.tables.proofs.Choices.{clash, know}
 use mathlib.Core.Path.{_∙_, sym}
 use Prim.Native.Nat.{_-_, _<_}
 use lib.ListN.{length-map}
 use borrow.Author.Tests.{not-true, not-false}
-use Rattle.text.proofs.Searching.{know}
 use Rattle.rule_file.proofs.CheckLoop.{CheckAt, check-start, check-whole, check-passes, check-fails, check-end, all-passed}
 use borrow.Author.Needs.{needs}
 use Rattle.rule_file.proofs.check.check_rows.Statement.{statement}

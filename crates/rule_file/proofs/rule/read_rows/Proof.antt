@@ -2,7 +2,7 @@ use mathlib.Core.Path.{_≡_, _∙_, sym, ap}
 use Prim.Native.Nat.{_-_}
 use native.Mathlib.Omega.{arith}
 use lib.ListN.{length}
-use Rattle.text.proofs.Searching.{rest-part}
+use Rattle.tables.proofs.Choices.{rest-part}
 use Rattle.text.proofs.Lines.{line-inside}
 use Rattle.rule_row.specs.Row.{rowLineAs, reasonOf}
 use Rattle.rule_file.proofs.RowLoop.{RowsAt, rows-start, places-long, rows-refused, rows-more, rows-surplus, rows-end}

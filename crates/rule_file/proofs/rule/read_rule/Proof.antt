@@ -1,7 +1,7 @@
 use mathlib.Core.Path.{_∙_, sym, ap}
 use borrow.Author.Tests.{lt-ltb, le-ltb}
 use Rattle.text.specs.Count.{countedAs, reasonOf}
-use Rattle.text.proofs.Searching.{rest-part}
+use Rattle.tables.proofs.Choices.{rest-part}
 use Rattle.text.proofs.Counts.{counted}
 use Rattle.rule_file.specs.Rule.{parseRule}
 use borrow.Author.Needs.{needs}

@@ -1,4 +1,4 @@
-use Rattle.text.proofs.Searching.{know}
+use Rattle.tables.proofs.Choices.{know}
 use borrow.Author.Tests.{not-true, not-false}
 use mathlib.Core.Path.{refl, ap, subst, subst⁻¹, _∙_}
 use Rattle.row_run.specs.declared.row.Course.{Course}

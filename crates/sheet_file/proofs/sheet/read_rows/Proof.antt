@@ -2,7 +2,7 @@ use Prim.Native.Nat.{_-_}
 use mathlib.Core.Path.{_≡_, _∙_}
 use native.Mathlib.Omega.{arith}
 use lib.ListN.{length}
-use Rattle.text.proofs.Searching.{rest-part}
+use Rattle.tables.proofs.Choices.{rest-part}
 use Rattle.text.proofs.DigitLines.{digits-within}
 use Rattle.sheet_file.proofs.Reading.{RowsAt, rows-start, row-fits, rows-length, rows-wrong, rows-more, rows-end, rows-surplus}
 use borrow.Author.Needs.{needs}

@@ -3,7 +3,7 @@ use mathlib.Core.Path.{_∙_, ap}
 use lib.ListN.{length}
 use borrow.Author.Tests.{lt-ltb, le-ltb}
 use Rattle.text.specs.Count.{reasonOf}
-use Rattle.text.proofs.Searching.{rest-part}
+use Rattle.tables.proofs.Choices.{rest-part}
 use Rattle.text.proofs.Counts.{counted}
 use Rattle.text.proofs.Headers.{counted-is, counted-wrong}
 use Rattle.sheet_file.specs.Sheet.{parseSheet}

@@ -2,7 +2,7 @@ use mathlib.Core.Path.{sym}
 use native.Mathlib.Omega.{arith}
 use lib.ListN.{length-take}
 use borrow.Author.Tests.{not-true, not-false}
-use Rattle.text.proofs.Searching.{know}
+use Rattle.tables.proofs.Choices.{know}
 use Rattle.text.proofs.Lines.{cut-known, keyed-absent, keyed-other, keyed-bad, keyed-good}
 use Rattle.take_file.proofs.Endings.{ending-none, ending-formless, ending-beyond, ending-loop}
 use borrow.Author.Needs.{needs}

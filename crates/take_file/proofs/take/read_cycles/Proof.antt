@@ -2,7 +2,7 @@ use Prim.Native.Nat.{_-_}
 use mathlib.Core.Path.{_∙_}
 use native.Mathlib.Omega.{arith}
 use borrow.Author.Needs.{needs}
-use Rattle.text.proofs.Searching.{rest-part}
+use Rattle.tables.proofs.Choices.{rest-part}
 use Rattle.text.proofs.DigitLines.{digits-within}
 use Rattle.take_file.proofs.Reading.{CyclesAt, cycles-start, cycles-wrong, cycles-room, cycles-more, cycles-end, cycles-surplus}
 use Rattle.take_file.proofs.take.read_cycles.Statement.{statement}

@@ -2,7 +2,8 @@ use mathlib.Core.Path.{sym}
 use native.Mathlib.Omega.{arith}
 use lib.ListN.{length-take}
 use borrow.Author.Tests.{not-true, not-false}
-use Rattle.text.proofs.Searching.{know, found}
+use Rattle.tables.proofs.Choices.{know}
+use Rattle.text.proofs.Searching.{found}
 use Rattle.text.proofs.DigitCuts.{no-sign, other-key, too-short, no-feed, no-digits, good-line}
 use borrow.Author.Needs.{needs}
 use Rattle.text.proofs.digits.digits_line.Statement.{statement}

@@ -3,7 +3,7 @@ use native.Mathlib.Omega.{arith}
 use lib.ListN.{length-take}
 use borrow.Author.Tests.{lt-ltb, le-ltb, not-true, not-false}
 use Rattle.text.specs.Count.{countForm}
-use Rattle.text.proofs.Searching.{know}
+use Rattle.tables.proofs.Choices.{know}
 use Rattle.text.proofs.Lines.{cut-known, keyed-absent, keyed-other, keyed-bad, keyed-good}
 use borrow.Author.Needs.{needs}
 use Rattle.text.proofs.line.count_line.Statement.{statement}

@@ -1,7 +1,8 @@
 use native.Mathlib.Omega.{arith}
 use lib.ListN.{length-take}
 use Rattle.text.specs.Line.{cutOf}
-use Rattle.text.proofs.Searching.{know, found}
+use Rattle.tables.proofs.Choices.{know}
+use Rattle.text.proofs.Searching.{found}
 use borrow.Author.Needs.{needs}
 use Rattle.text.proofs.line.cut_line.Statement.{statement}
 use Rattle.text.proofs.line.cut_line.Tie as tie

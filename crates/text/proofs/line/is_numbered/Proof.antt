@@ -1,5 +1,5 @@
 use borrow.Author.Tests.{eq-eqb, ne-eqb}
-use Rattle.text.proofs.Searching.{know, rest-part}
+use Rattle.tables.proofs.Choices.{know, rest-part}
 use Rattle.text.proofs.Lines.{numbered-none, numbered-some}
 use borrow.Author.Needs.{needs}
 use Rattle.text.proofs.line.is_numbered.Statement.{statement}

@@ -1,11 +1,13 @@
--- The numbered lines of a file, element by element: that each is of its form, and how long they are. Assumes nothing.
+-- What crates above cite of texts: the numbered lines of a file, element by element, and how long written things are. Assumes nothing.
 use mathlib.Core.Path.{_≡_}
+use mathlib.Core.Bool.{Bool}
 use mathlib.Core.List.{List, [], _∷_, _++_}
 use Prim.Native.Nat.{ℕ, zero, suc, _+_, _*_, _≤_, _<_}
 use native.Mathlib.Nat.{add-zero, suc-mul}
 use native.Mathlib.Omega.{arith}
-use lib.ListN.{length, getD, length-append}
-use Rattle.text.specs.Written.{decimal, writtenLine, writtenBody}
+use lib.ListN.{length, getD, length-append, length-map}
+use Rattle.tables.specs.Choice.{pick}
+use Rattle.text.specs.Written.{decimal, digitsText, writtenLine, writtenBody}
 use Rattle.text.proofs.Numbers.{decimal-length}
 use Rattle.text.specs.Body.{EachAt}
 
@@ -48,3 +50,6 @@ body-short letter text d most (x ∷ xs) k h =
     let b : length (text x) ≤ most = h 0 (omega arith) in
     let c : suc (length xs) * (most + 8) ≡ length xs * (most + 8) + (most + 8) = suc-mul (length xs) (most + 8) in
     omega (arith, line-length (letter ∷ decimal k) (text x) rest, decimal-short k)
+
+pub text-length : (ds : List Bool) → length (digitsText ds) ≡ length ds
+text-length ds = length-map {B = ℕ} ds (λ b. pick b 49 48)
