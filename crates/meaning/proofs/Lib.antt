@@ -15,6 +15,7 @@ pub mod PatternBits
 pub mod Evaluation
 pub mod Lasso
 pub mod Agreement
+pub mod Published
 pub mod StrongTruth
 pub mod Prefix
 pub mod Informative

@@ -66,6 +66,14 @@ pub not-not-on : (b : Bool) → ¬ ¬ On b → On b
 not-not-on true n = refl
 not-not-on false n = absurd (n (λ e. true≢false (sym e)))
 
+pub not-true : (b : Bool) → ¬ On b → b ≡ false
+not-true true n = absurd (n refl)
+not-true false n = refl
+
+pub not-false : (b : Bool) → ¬ (b ≡ false) → On b
+not-false true n = refl
+not-false false n = absurd (n refl)
+
 pub bools-equal : (x y : Bool) → (On x → On y) → (On y → On x) → x ≡ y
 bools-equal true y f g = sym (f refl)
 bools-equal false true f g = g refl

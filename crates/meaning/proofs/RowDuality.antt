@@ -1,8 +1,7 @@
 -- The dual of a positive row, where its operands are the negations, is the row's negation: it excludes the row in any reading
 -- (dual-excludes), and in a full one holds where the row does not (dual-else). Assumes nothing.
 use Prim.Native.Nat.{ℕ, suc}
-use mathlib.Core.Path.{_≡_, refl}
-use mathlib.Core.Bool.{Bool, true, false}
+use mathlib.Core.Path.{refl}
 use Rattle.tables.specs.Kind.{dualOf, kindAt, kinds}
 use Rattle.tables.specs.declared.row.ConstantKind.the-variants.{True, False}
 use Rattle.tables.specs.declared.row.SignalKind.the-variants.{Sig, Nsig}
@@ -13,7 +12,7 @@ use Rattle.tables.specs.declared.row.Row.the-variants.{Constant, Signal, Unary,
 use Rattle.meaning.specs.Reading.{Reading}
 use Rattle.meaning.specs.Trace.{InfiniteTrace}
 use Rattle.meaning.specs.Satisfaction.{Means}
-use Rattle.meaning.proofs.Readings.{Full, On, on-and-off}
+use Rattle.meaning.proofs.Readings.{Full, on-and-off, not-true, not-false}
 use Rattle.meaning.proofs.Rows.{Each, Positive}
 use Rattle.meaning.proofs.Duality as duality
 
@@ -33,14 +32,6 @@ dual-positive (Binary Weak a b) p = tt
 dual-positive (Binary Until a b) p = tt
 dual-positive (Binary Release a b) p = tt
 dual-positive (Binary Srelease a b) p = tt
-
-not-true : (b : Bool) → ¬ On b → b ≡ false
-not-true true n = absurd (n refl)
-not-true false n = refl
-
-not-false : (b : Bool) → ¬ (b ≡ false) → On b
-not-false true n = refl
-not-false false n = absurd (n refl)
 
 -- u at the dual's operands, v at the row's
 module _ (R : Reading) (w : InfiniteTrace) (u v : ℕ → ℕ → Type 0) (i : ℕ) where
