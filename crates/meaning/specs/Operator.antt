@@ -1,5 +1,5 @@
--- The temporal operators (01, "Meaning"; source document 003, figure 1): "On an endless take at cycle i, j meaning i or later".
--- An operand is given by the cycles at which it is true. Assumes nothing.
+-- The temporal operators in 01's words ("Meaning"): "On an endless take at cycle i, j meaning i or later". An operand is given by the
+-- cycles at which it is true. That they are those of source document 003, figure 1 (Published): proofs/Published. Assumes nothing.
 use Prim.Native.Nat.{ℕ, suc, _≤_, _<_}
 use Rattle.meaning.specs.Reading.{Reading, Either, Some}
 
