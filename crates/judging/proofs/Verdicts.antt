@@ -11,20 +11,22 @@ use Rattle.tables.specs.declared.trace.Ending.the-variants.{Open as NoLoop, Loo
 use Rattle.tables.specs.declared.trace.Trace.{Trace}
 use Rattle.rule_file.specs.Valid.{InRange as FormulaInRange}
 use Rattle.take_file.specs.Valid.{InRange as TraceInRange}
-use Rattle.meaning.specs.Reading.{classical}
+use Rattle.meaning.specs.Reading.{classical, literal}
 use Rattle.meaning.specs.Trace.{InfiniteTrace, signalAt, unrolled, Extends}
 use Rattle.meaning.specs.Satisfaction.{tableOf, Satisfies, SatisfiesNormal}
+use Rattle.meaning.specs.Published.{PublishedSatisfies}
 use Rattle.meaning.specs.Informative.{Informative}
 use Rattle.meaning.proofs.Rows.{each-signal, each-signal-map}
 use Rattle.meaning.proofs.Locality.{SameSignals}
 use Rattle.meaning.proofs.StrongTruth.{strong-true, extends-same}
 use Rattle.meaning.proofs.Informative.{informative-strong}
+use Rattle.meaning.proofs.Published.{published-on-lasso}
 use Rattle.normal_form.specs.declared.sign.Sign.{Sign}
 use Rattle.normal_form.specs.declared.sign.Sign.the-variants.{Plain, Negated}
 use Rattle.normal_form.specs.Form.{InNormalForm}
 use Rattle.normal_form.specs.Numbering.{normalForm}
 use Rattle.normal_form.proofs.Ranges.{form-normal}
-use Rattle.normal_form.proofs.FormTables.{form-ordered, form-positive, form-signals}
+use Rattle.normal_form.proofs.FormTables.{table-ordered, form-ordered, form-positive, form-signals}
 use Rattle.normal_form.proofs.Demand.{satisfied-alike, satisfied-opposite}
 use Rattle.judging.specs.declared.verdict.Verdict.{Verdict}
 use Rattle.judging.specs.declared.verdict.Verdict.the-variants.{Holds, Breaks, Kept, Broken, Open}
@@ -145,3 +147,17 @@ module _ (f : Formula) (t : Trace) where
         only Kept s = absurd (x s)
         only Broken s = absurd (y s)
         only Open s = refl
+
+-- ---- by the published meaning
+
+-- A LOOPED TAKE HOLDS EXACTLY WHEN ITS ENDLESS REPETITION SATISFIES THE RULE BY FIGURE 1 of document 003, read with the prover's own
+-- "or" and "there is"; it breaks exactly when it does not
+module _ (f : Formula) (t : Trace) (range : FormulaInRange f) (l : ℕ) (e : t .ending ≡ Loop l) (below : l < t .cycles) where
+  same : Satisfies classical (unrolled t l) f ↔ PublishedSatisfies literal (unrolled t l) f
+  same = published-on-lasso f (table-ordered (f .signals) (f .rows) (f .places) (range .rows-in-range)) t l below
+
+  pub holds-published : VerdictOf f t Holds ↔ PublishedSatisfies literal (unrolled t l) f
+  holds-published = (λ v. same .0 (subst (λ y. SaysOf f t y Holds) e (v .said)), λ x. holds-verdict f t l e (same .1 x))
+
+  pub breaks-published : VerdictOf f t Breaks ↔ (¬ PublishedSatisfies literal (unrolled t l) f)
+  breaks-published = (λ v x. subst (λ y. SaysOf f t y Breaks) e (v .said) (same .1 x), λ n. breaks-verdict f t l e (λ x. n (same .0 x)))

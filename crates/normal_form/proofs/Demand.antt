@@ -9,6 +9,8 @@ use Rattle.rule_file.specs.Valid.{InRange}
 use Rattle.meaning.specs.Reading.{Reading, classical}
 use Rattle.meaning.specs.Trace.{InfiniteTrace}
 use Rattle.meaning.specs.Satisfaction.{Satisfies, SatisfiesNormal}
+use Rattle.meaning.specs.Published.{PublishedSatisfies, PublishedSatisfiesNormal}
+use Rattle.meaning.proofs.Published.{published-satisfies, published-satisfies-normal}
 use Rattle.meaning.proofs.Readings.{Full, classical-full}
 use Rattle.normal_form.specs.declared.sign.Sign.{Sign}
 use Rattle.normal_form.specs.declared.sign.Sign.the-variants.{Plain, Negated}
@@ -16,7 +18,8 @@ use Rattle.normal_form.specs.Reached.{Reached.root}
 use Rattle.normal_form.specs.Numbering.{normalRows, newNumber, normalForm}
 use Rattle.normal_form.proofs.Operands.{row-below}
 use Rattle.normal_form.proofs.Normality.{normal}
-use Rattle.normal_form.proofs.Ranges.{rows-double}
+use Rattle.normal_form.proofs.Ranges.{rows-double, form-normal}
+use Rattle.normal_form.proofs.FormTables.{table-ordered, form-ordered}
 use Rattle.normal_form.proofs.SameMeaning.{Under, implies, same-root}
 
 module _ (f : Formula) (range : InRange f) where
@@ -56,3 +59,10 @@ module _ (f : Formula) (range : InRange f) where
 
   pub satisfied-opposite : (w : InfiniteTrace) → SatisfiesNormal classical w (normalForm f Negated) ↔ (¬ Satisfies classical w f)
   satisfied-opposite w = negated-opposite classical w classical-full
+
+  -- both by the published meaning (document 003, figure 1)
+  pub satisfied-as-published : (w : InfiniteTrace) → Satisfies classical w f ↔ PublishedSatisfies classical w f
+  satisfied-as-published = published-satisfies f (table-ordered (f .signals) (f .rows) (f .places) (range .rows-in-range))
+
+  pub normal-as-published : (s : Sign) (w : InfiniteTrace) → SatisfiesNormal classical w (normalForm f s) ↔ PublishedSatisfiesNormal classical w (normalForm f s)
+  normal-as-published s = published-satisfies-normal (normalForm f s) (form-ordered (normalForm f s) (form-normal f s range))
