@@ -70,7 +70,7 @@ module _ (f : Formula) (t : Trace) (a : Activation) (rule : FormulaValid f) (tak
   check-computed x c =
       let tables : tablesOutcome f t a ≡ Accepted = rw (rule-written f rule, take-written t take, sheet-written a sheet) (sym (agree (f .signals) (t .signals) (c .signals))) in
       let sizes : (eqb (a .rows) (normalForm f Plain .rows) && eqb (a .cycles) (t .cycles)) ≡ true = rw (eq-eqb (a .rows) (normalForm f Plain .rows) (c .rows), eq-eqb (a .cycles) (t .cycles) (c .cycles)) refl in
-      found-answer f t a tables sizes x (subst (FindingOf (normalForm f Plain) t a) (c .found) (finding-computed (normalForm f Plain) t a (take .range)))
+      (found-answer f t a tables sizes x (subst (FindingOf (normalForm f Plain) t a) (c .found) (finding-computed (normalForm f Plain) t a (take .range)))) .so
 
 -- ---- a sheet made, on a looped take
 

@@ -5,7 +5,9 @@ use mathlib.Core.Path.{_≡_, refl, sym, ap, _∙_}
 use mathlib.Core.Logic.{_↔_}
 use mathlib.Core.Bool.{Bool, true, false}
 use native.Mathlib.Omega.{arith}
+use Rattle.tables.specs.Only.{TheOnly}
 use Rattle.tables.specs.Choice.{pick}
+use Rattle.tables.specs.declared.refusal.Refusal.{Refusal}
 use Rattle.tables.specs.declared.refusal.Outcome.{Outcome}
 use Rattle.tables.specs.declared.refusal.Outcome.the-variants.{Accepted, Refused}
 use Rattle.tables.specs.declared.row.Formula.{Formula}
@@ -35,7 +37,7 @@ use Rattle.normal_form.proofs.FormTables.{table-ordered, form-ordered, form-pos
 use Rattle.judging.specs.declared.verdict.Verdict.{Verdict}
 use Rattle.judging.specs.declared.verdict.Verdict.the-variants.{Holds, Breaks, Kept, Broken, Open}
 use Rattle.judging.specs.declared.verdict.Answer.{Answer}
-use Rattle.judging.specs.declared.verdict.Answer.the-variants.{Judged}
+use Rattle.judging.specs.declared.verdict.Answer.the-variants.{Judged, Refused as AnswerRefused}
 use Rattle.judging.specs.Verdict.{StronglyTrue, VerdictOf}
 use Rattle.judging.specs.Refusals.{pairOutcome, Answers}
 use Rattle.tables.specs.Refusal.{andThen}
@@ -111,3 +113,13 @@ module _ (f : Formula) (t : Trace) (rule : FormulaValid f) (take : TraceValid t)
 pub one-answer : (o : Outcome) (f : Formula) (t : Trace) (r s : Answer) → Answers o f t r → Answers o f t s → r ≡ s
 one-answer (Refused why) f t r s x y = x ∙ sym y
 one-answer Accepted f t r s (v, e, is) (u, d, other) = e ∙ ap Judged (other .only v (is .said)) ∙ sym d
+
+only-answer : (o : Outcome) (f : Formula) (t : Trace) (r : Answer) → Answers o f t r → TheOnly (Answers o f t) r
+only-answer o f t r x = record { so = x; only = λ s y. one-answer o f t s r y x }
+
+module _ (f : Formula) (t : Trace) where
+  pub only-refused : (why : Refusal) → TheOnly (Answers (Refused why) f t) (AnswerRefused why)
+  only-refused why = only-answer (Refused why) f t (AnswerRefused why) refl
+
+  pub only-judged : (v : Verdict) → VerdictOf f t v → TheOnly (Answers Accepted f t) (Judged v)
+  only-judged v is = only-answer Accepted f t (Judged v) (v, refl, is)

@@ -13,6 +13,7 @@ use tables::trace::Trace;
 ghost use mathlib.Core.Path.{_≡_};
 ghost use mathlib.Core.Logic.{_↔_};
 ghost use mathlib.Core.Bool.{true};
+ghost use Rattle.tables.specs.Only.{TheOnly};
 ghost use Rattle.rule_file.specs.Valid.{InRange as FormulaInRange};
 ghost use Rattle.take_file.specs.Valid.{InRange as TraceInRange};
 ghost use Rattle.normal_form.specs.Form.{InNormalForm};
@@ -115,7 +116,7 @@ fn check_open(formula: Formula, trace: Trace) -> Outcome
 // The answer where the checks are made.
 fn answer(outcome: Outcome, formula: Formula, trace: Trace) -> Answer
     requires { ⌜ (outcome ≡ Outcome.Accepted → FormulaInRange formula × TraceInRange trace) ⌝ }
-    ensures { λ r. ⌜ Answers outcome formula trace r ⌝ }
+    ensures { λ r. ⌜ TheOnly (Answers outcome formula trace) r ⌝ }
 {
     match outcome {
         Outcome::Refused(refusal) => Answer::Refused(refusal),
@@ -129,21 +130,21 @@ fn answer(outcome: Outcome, formula: Formula, trace: Trace) -> Answer
 
 // SERVICE: the verdict on a take of either kind.
 pub fn judge(formula: Formula, trace: Trace) -> Answer
-    ensures { λ r. ⌜ Answers (pairOutcome formula trace) formula trace r ⌝ }
+    ensures { λ r. ⌜ TheOnly (Answers (pairOutcome formula trace) formula trace) r ⌝ }
 {
     answer(check_pair(formula, trace), formula, trace)
 }
 
 // SERVICE: the verdict on a looped take, `holds` or `breaks`.
 pub fn judge_looped(formula: Formula, trace: Trace) -> Answer
-    ensures { λ r. ⌜ Answers (loopedOutcome formula trace) formula trace r ⌝ }
+    ensures { λ r. ⌜ TheOnly (Answers (loopedOutcome formula trace) formula trace) r ⌝ }
 {
     answer(check_looped(formula, trace), formula, trace)
 }
 
 // SERVICE: the verdict on an open take, `kept`, `broken` or `open`.
 pub fn judge_open(formula: Formula, trace: Trace) -> Answer
-    ensures { λ r. ⌜ Answers (openOutcome formula trace) formula trace r ⌝ }
+    ensures { λ r. ⌜ TheOnly (Answers (openOutcome formula trace) formula trace) r ⌝ }
 {
     answer(check_open(formula, trace), formula, trace)
 }

@@ -2,6 +2,7 @@
 use Prim.Native.Nat.{ℕ}
 use mathlib.Core.Path.{_≡_}
 use mathlib.Core.List.{List}
+use Rattle.tables.specs.Only.{TheOnly, TheOnlyPair}
 use Rattle.tables.specs.declared.refusal.Outcome.{Outcome}
 use Rattle.tables.specs.declared.refusal.Refusal.{Refusal}
 use Rattle.tables.specs.declared.row.Formula.{Formula}
@@ -24,21 +25,21 @@ Turned before after r why = (r ≡ refusalCode why) × (after ≡ before)
 -- the verdict's code where the checks of this judging service pass
 pub record JudgedAs (checks : Outcome) (f : Formula) (t : Trace) (r : ℕ) : Type 0 where
   pub answer : Answer
-  pub answers : Answers checks f t answer
+  pub answers : TheOnly (Answers checks f t) answer
   pub coded : r ≡ judgeCode answer
 
 pub record MadeAs (f : Formula) (t : Trace) (before after : List ℕ) (r : ℕ) : Type 0 where
   pub answer : MakerAnswer
-  pub makes : Makes f t before after answer
+  pub makes : TheOnlyPair (Makes f t before) after answer
   pub coded : r ≡ makerCode answer
 
 pub record CheckedAs (f : Formula) (t : Trace) (a : Activation) (r : ℕ) : Type 0 where
   pub answer : CheckAnswer
-  pub answers : CheckAnswers (checkOutcome f t a) f t a answer
+  pub answers : TheOnly (CheckAnswers (checkOutcome f t a) f t a) answer
   pub coded : r ≡ checkCode answer
 
 -- the text of `judge`, or 10
 pub record PrintedAs (rule take before after : List ℕ) (r : ℕ) : Type 0 where
   pub answer : Bytes
-  pub prints : Prints rule take before after answer
+  pub prints : TheOnlyPair (Prints rule take before) after answer
   pub coded : r ≡ bytesCode answer

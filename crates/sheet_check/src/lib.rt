@@ -8,6 +8,7 @@ use tables::row::Formula;
 use tables::trace::Activation;
 use tables::trace::Trace;
 ghost use mathlib.Core.Path.{_≡_};
+ghost use Rattle.tables.specs.Only.{TheOnly};
 ghost use Rattle.rule_file.specs.Valid.{InRange as FormulaInRange};
 ghost use Rattle.take_file.specs.Valid.{InRange as TraceInRange};
 ghost use Rattle.sheet_check.specs.Answer.{CheckAnswers, checkOutcome, tablesOutcome};
@@ -41,7 +42,7 @@ fn check_tables(formula: Formula, trace: Trace, sheet: Activation) -> Outcome
 
 // SERVICE: what a check of the sheet for the rule and the take finds.
 pub fn check_sheet(formula: Formula, trace: Trace, sheet: Activation) -> CheckAnswer
-    ensures { λ r. ⌜ CheckAnswers (checkOutcome formula trace sheet) formula trace sheet r ⌝ }
+    ensures { λ r. ⌜ TheOnly (CheckAnswers (checkOutcome formula trace sheet) formula trace sheet) r ⌝ }
 {
     let outcome = check_tables(formula, trace, sheet);
     match outcome {

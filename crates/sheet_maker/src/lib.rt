@@ -8,6 +8,7 @@ use tables::trace::Activation;
 use tables::trace::Trace;
 ghost use mathlib.Core.Path.{_≡_};
 ghost use Prim.Native.Nat.{_≤_};
+ghost use Rattle.tables.specs.Only.{TheOnlyPair};
 ghost use Rattle.rule_file.specs.Valid.{InRange as FormulaInRange};
 ghost use Rattle.take_file.specs.Valid.{InRange as TraceInRange};
 ghost use Rattle.sheet_file.specs.Written.{writtenSheet};
@@ -65,7 +66,7 @@ fn write_sheet(sheet: Activation, buf: &mut [u8]) -> MakerAnswer
 // SERVICE: the sheet file of the formula's normal form over the trace, if the root is true at the first cycle. Tables that are not
 // refused are in range, as the theorems about sheets ask.
 pub fn make_sheet(formula: Formula, trace: Trace, buf: &mut [u8]) -> MakerAnswer
-    ensures { λ r. ⌜ Makes formula trace (now (buf .entry)) (now (buf .exit)) r ⌝ }
+    ensures { λ r. ⌜ TheOnlyPair (Makes formula trace (now (buf .entry))) (now (buf .exit)) r ⌝ }
     ensures { λ r. ⌜ (pairOutcome formula trace ≡ Outcome.Accepted → FormulaInRange formula × TraceInRange trace) ⌝ }
 {
     let outcome = judging::check_pair(formula, trace);
