@@ -30,7 +30,7 @@ use Rattle.normal_form.specs.declared.sign.Sign.{Sign}
 use Rattle.normal_form.proofs.Ranges.{form-normal}
 use Rattle.writing.specs.Refusal.{refusalText}
 use Rattle.normal_file.specs.Answer.{output}
-use Rattle.normal_file.proofs.Lengths.{bound-enough, decimal-most}
+use Rattle.normal_file.proofs.Lengths.{output-most, decimal-most}
 use Rattle.judging.specs.declared.verdict.Verdict.{Verdict}
 use Rattle.judging.specs.declared.verdict.Verdict.the-variants.{Holds, Breaks, Kept, Broken, Open as Undecided}
 use Rattle.judge_text.specs.Text.{verdictText, verdictWord}
@@ -100,7 +100,7 @@ text-enough (accepted f) (accepted t) text is = pair-most (eqb (f .signals) (t .
 -- ---- the normal form: 2,845 bytes; a step: 384
 module _ (f : Formula) (s : Sign) (ok : InRange f) where
   pub normal-enough : length (output f s) ≤ 2845
-  normal-enough = omega (arith, bound-enough f s ok, ok .most-rows)
+  normal-enough = omega (arith, output-most f s ok, ok .most-rows)
 
   pub step-enough : 3 * normalForm f s .rows ≤ 384
   step-enough = omega (arith, form-normal f s ok .most-rows)

@@ -1,7 +1,7 @@
 -- The bound service's number is enough: a header of at most 29 bytes, and two lines of at most 22 bytes for each row of the rule.
 -- Assumes nothing.
 use Prim.Native.Nat.{ℕ, _+_, _*_, _/_, _≤_, _<_}
-use mathlib.Core.Path.{_≡_, sym, ap}
+use mathlib.Core.Path.{_≡_, refl, sym, ap}
 use mathlib.Core.Bool.{true}
 use mathlib.Core.List.{List, [], _∷_}
 use native.Mathlib.Decide.{decLt}
@@ -12,20 +12,26 @@ use Rattle.tables.specs.Kind.{placeOf, firstNumber, secondNumber}
 use Rattle.tables.proofs.KindTable.{word-short, kind-of-row}
 use Rattle.tables.specs.declared.row.Row.{Row}
 use Rattle.tables.specs.declared.row.Row.the-variants.{Constant, Signal, Unary, Binary}
+use Rattle.tables.specs.Refusal.{onOutcome}
+use Rattle.tables.specs.declared.refusal.Outcome.{Outcome}
+use Rattle.tables.specs.declared.refusal.Outcome.the-variants.{Accepted, Refused}
 use Rattle.tables.specs.declared.row.Formula.{Formula}
+use Rattle.tables.proofs.Choices.{clash}
 use Rattle.text.specs.Body.{EachAt}
 use Rattle.text.specs.Written.{decimal, writtenLine, writtenBody}
 use Rattle.text.proofs.Laws.{line-length}
 use Rattle.rule_row.specs.Row.{inRange}
 use Rattle.rule_file.specs.Valid.{InRange}
+use Rattle.rule_file.proofs.Rules.{checked}
 use Rattle.rule_row.specs.Written.{numbersText, writtenRow}
 use Rattle.rule_row.proofs.Laws.{numbers-below}
 use Rattle.normal_form.specs.declared.sign.Sign.{Sign}
 use Rattle.normal_form.specs.Numbering.{normalRows, normalForm}
 use Rattle.normal_form.proofs.Ranges.{rows-double, form-normal, form-rows}
+use Rattle.writing.specs.declared.answer.Bytes.the-variants.{Count, Refused as BytesRefused}
 use Rattle.writing.specs.Normal.{writtenNormal}
 use Rattle.writing.proofs.Texts.{decimal-one, decimal-two, decimal-three}
-use Rattle.normal_file.specs.Answer.{output}
+use Rattle.normal_file.specs.Answer.{boundAnswer, output, ownOutcome}
 
 -- a number below 1000 takes three bytes at most
 pub decimal-most : (n : ℕ) → n < 1000 → length (decimal n) ≤ 3
@@ -73,13 +79,21 @@ header-most signals rows body hs hm =
     let one : length (decimal 1) ≡ 1 = sym (ap length (decimal-one 1 (omega arith))) in
     omega (arith, one, line-length (bytes "format") (decimal 1) signals-line, line-length (bytes "signals") (decimal signals) rows-line, line-length (bytes "rows") (decimal rows) body, decimal-two-most signals hs, decimal-most rows hm)
 
--- THE OUTPUT IS NEVER LONGER THAN THE BOUND
-pub bound-enough : (f : Formula) (s : Sign) → InRange f → length (output f s) ≤ 29 + 44 * f .rows
+-- 29 bytes and 44 for each row of the rule are enough
+pub output-most : (f : Formula) (s : Sign) → InRange f → length (output f s) ≤ 29 + 44 * f .rows
 unfolding writtenNormal normalForm
-bound-enough f s ok =
+output-most f s ok =
     let g = form-normal f s ok in
     let rs : List Row = normalRows f s in
     let body : List ℕ = writtenBody 114 writtenRow 1 rs in
     let a : length body ≤ 22 * length rs = rows-most (f .signals) (ok .most-signals) rs 1 (omega (arith, rows-double f s ok, ok .most-rows)) (rw (form-rows f s ok) at (g .rows-in-range)) in
     let b = header-most (f .signals) (length rs) body (omega (arith, ok .most-signals)) (omega (arith, rows-double f s ok, ok .most-rows)) in
     rw (form-rows f s ok) (omega (arith, rows-double f s ok))
+
+-- THE BOUND SERVICE'S ANSWER IS NEVER LESS THAN THE OUTPUT'S LENGTH, whichever sign is written
+pub bound-enough : (f : Formula) (s : Sign) (n : ℕ) → boundAnswer f ≡ Count n → length (output f s) ≤ n
+bound-enough f s n answered = by (ownOutcome f) refl answered
+  where
+    by : (o : Outcome) → ownOutcome f ≡ o → onOutcome o BytesRefused (Count (29 + 44 * f .rows)) ≡ Count n → length (output f s) ≤ n
+    by Accepted e q = let same : 29 + 44 * f .rows ≡ n = cc in omega (arith, output-most f s (checked f e))
+    by (Refused why) e q = clash (cc)
