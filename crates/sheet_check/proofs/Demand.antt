@@ -15,7 +15,7 @@ use Rattle.sheet_check.specs.declared.finding.Finding.the-variants.{Pass
 use Rattle.sheet_check.specs.declared.finding.CheckAnswer.{CheckAnswer}
 use Rattle.sheet_check.specs.declared.finding.CheckAnswer.the-variants.{Refused as CheckRefused, Checked}
 use Rattle.sheet_check.specs.Finding.{FindingSays, FindingOf}
-use Rattle.sheet_check.specs.Answer.{CheckAnswers}
+use Rattle.sheet_check.specs.Answer.{CheckAnswers, checkOutcome}
 
 -- each finding is given exactly when what it says is so
 pub finding-exactly : (g : NormalForm) (t : Trace) (a : Activation) (x : Finding) → FindingOf g t a x → (y : Finding) → FindingSays g t a (t .ending) y ↔ (y ≡ x)
@@ -26,12 +26,17 @@ abbrev pub findingOr : Finding → CheckAnswer → Finding
 findingOr x (CheckRefused why) = x
 findingOr x (Checked y) = y
 
--- REFUSALS ASIDE, THE CHECK SAYS `passes` EXACTLY OF THE PASSING SHEETS
-pub passes-exactly : (f : Formula) (t : Trace) (a : Activation) (r : CheckAnswer) → CheckAnswers Accepted f t a r → (r ≡ Checked Passes) ↔ SheetPasses (normalForm f Plain) t a
-passes-exactly f t a r (x, e, is) = (
+accepted-passes : (f : Formula) (t : Trace) (a : Activation) (r : CheckAnswer) → CheckAnswers Accepted f t a r → (r ≡ Checked Passes) ↔ SheetPasses (normalForm f Plain) t a
+accepted-passes f t a r (x, e, is) = (
   λ p. subst (FindingSays (normalForm f Plain) t a (t .ending)) (same p) (is .said),
   λ p. subst (λ y. r ≡ Checked y) (sym (is .only Passes p)) e,
 )
   where
     same : r ≡ Checked Passes → x ≡ Passes
     same p = let q : Checked x ≡ Checked Passes = subst (λ y. y ≡ Checked Passes) e p in ap (findingOr Passes) q
+
+-- REFUSALS ASIDE, THE CHECK SAYS `passes` EXACTLY OF THE PASSING SHEETS: of what the contract of `check_sheet` allows, where no check
+-- refuses
+pub passes-exactly : (f : Formula) (t : Trace) (a : Activation) → checkOutcome f t a ≡ Accepted
+    → (r : CheckAnswer) → CheckAnswers (checkOutcome f t a) f t a r → (r ≡ Checked Passes) ↔ SheetPasses (normalForm f Plain) t a
+passes-exactly f t a accepted r answers = accepted-passes f t a r (subst (λ o. CheckAnswers o f t a r) accepted answers)
