@@ -23,6 +23,7 @@ use Rattle.meaning.proofs.Evaluation.{bitsWithin, bitsOf}
 use Rattle.normal_form.specs.Reach.{markedDown, reach}
 use Rattle.normal_form.specs.Numbering.{listing, normalListing, normalForm}
 use Rattle.writing.specs.Normal.{writtenNormal}
+use Rattle.writing.specs.Refusal.{refusalText}
 use Rattle.judge_text.specs.Text.{verdictText}
 use Rattle.sheet_file.specs.Sheet.{parseSheet}
 use Rattle.sheet_check.proofs.ByRun.{run-from, ran, survey-from, surveyed, computedFinding}
@@ -36,9 +37,11 @@ a also b = first a b
 
 -- row by row; of a verdict: the signals agree, the ending is what the service needs, and the bits give the verdict
 computed : Each Computed cases
-unfolding parseRule keyedLine cutOf firstWhere further sameBytes countForm numberOf digitsOf digitsFrom bodyLines isNumbered rowValue rowForm formOf kindNamed kinds kindAt dualOf tabulateFrom writtenRule writtenBody decimal decimalIn markedDown reach listing normalListing normalForm writtenNormal parseTake areDigits digitsForm endingValue bitAt wordFrom lineOf position approximant bitsWithin bitsOf verdictText parseSheet run-from ran survey-from surveyed computedFinding
+unfolding parseRule keyedLine cutOf firstWhere further sameBytes countForm numberOf digitsOf digitsFrom bodyLines isNumbered rowValue rowForm formOf kindNamed kinds kindAt dualOf tabulateFrom writtenRule writtenBody decimal decimalIn markedDown reach listing normalListing normalForm writtenNormal refusalText parseTake areDigits digitsForm endingValue bitAt wordFrom lineOf position approximant bitsWithin bitsOf verdictText parseSheet run-from ran survey-from surveyed computedFinding
 computed =
     refl
+    also (λ buf. (refl, refl))
+    also (λ buf. (refl, refl))
     also (λ buf. (refl, refl))
     also (refl, refl, refl)
     also (refl, refl, refl)
@@ -54,6 +57,12 @@ computed =
     also (refl, refl, refl)
     also (refl, refl, refl)
     also (refl, refl)
+    also (refl, refl)
+    also (refl, refl)
+    also (refl, refl)
+    also (refl, refl)
+    also refl
+    also refl
     also record { signals = refl; rows = refl; cycles = refl; holds = refl; digits = refl }
     also record { signals = refl; rows = refl; cycles = refl; found = refl }
     also record { signals = refl; rows = refl; cycles = refl; found = refl }

@@ -1,6 +1,6 @@
 -- What has to be computed for a case (Computed), and that the case is then so (computed-says). Assumes nothing.
 use Prim.Native.Nat.{ℕ}
-use mathlib.Core.Path.{_≡_, refl}
+use mathlib.Core.Path.{_≡_, refl, sym}
 use mathlib.Core.Bool.{true}
 use mathlib.Core.List.{List, [], _∷_}
 use Rattle.tables.specs.declared.refusal.Outcome.{Outcome}
@@ -24,6 +24,7 @@ use Rattle.judging.specs.declared.verdict.Answer.the-variants.{Judged}
 use Rattle.judging.specs.Refusals.{pairOutcome, needsLoop, needsNoLoop}
 use Rattle.tables.specs.Refusal.{andThen}
 use Rattle.judging.proofs.ByBits.{computedVerdict, verdict-computed, answered}
+use Rattle.writing.specs.Refusal.{refusalText}
 use Rattle.judge_text.specs.Text.{verdictText}
 use Rattle.judge_text.specs.Answer.{IsText}
 use Rattle.judge_text.proofs.Answers.{judged-text}
@@ -38,11 +39,11 @@ Judges needs v (accepted f) (accepted t) = (f .signals ≡ t .signals) × (needs
 Judges needs v (accepted f) (refused e n) = ⊥
 Judges needs v (refused e n) q = ⊥
 
--- the same for the text
+-- the same for the text; or the first file that is turned back is told
 abbrev PrintsText : List ℕ → Result Formula → Result Trace → Type 0
 PrintsText text (accepted f) (accepted t) = (f .signals ≡ t .signals) × (verdictText (f .signals) (normalForm f Plain .rows) (t .cycles) (t .ending) (computedVerdict f t) ≡ text)
-PrintsText text (accepted f) (refused e n) = ⊥
-PrintsText text (refused e n) q = ⊥
+PrintsText text (accepted f) (refused e n) = refusalText (record { reason = e; file = 2; line = n }) ≡ text
+PrintsText text (refused e n) q = refusalText (record { reason = e; file = 1; line = n }) ≡ text
 
 -- a case on the normal form is computed itself
 -- of a sheet: the three files are read, and their tables are so
@@ -73,8 +74,8 @@ module _ (rule take : File) where
 
   printed : (text : List ℕ) (p : Result Formula) (q : Result Trace) → parseRule (fileBytes rule) ≡ p → parseTake (fileBytes take) ≡ q → PrintsText text p q → IsText p q text
   printed text (accepted f) (accepted t) fr tr (same, e) = rw (← e) (judged-text f t same (computedVerdict f t) (verdict-computed f t (rule-read (fileBytes rule) f fr .1 .in-range) (take-read (fileBytes take) t tr .1 .range)) _ refl)
-  printed text (accepted f) (refused e n) fr tr x = absurd x
-  printed text (refused e n) q fr tr x = absurd x
+  printed text (accepted f) (refused e n) fr tr x = sym x
+  printed text (refused e n) q fr tr x = sym x
 
 module _ (rule take sheet : File) where
   made : (p : Result Formula) (q : Result Trace) (r : Result Activation) → parseRule (fileBytes rule) ≡ p → parseTake (fileBytes take) ≡ q → parseSheet (fileBytes sheet) ≡ r → OnThree p q r MakesTo → Says (makes rule take sheet)

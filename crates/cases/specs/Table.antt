@@ -1,7 +1,8 @@
--- The cases that 01 marks P ("Rules and takes to try"), one row each, and four that it does not: two on `next`, the text of `judge`,
--- and that the sheet made for rule A passes. Assumes nothing.
+-- The cases that 01 marks P ("Rules and takes to try"), one row each, and some that it does not: two on `next`, that the sheet made for
+-- rule A passes, and such as name each word once: what `judge` prints for each verdict and for a refusal in either file, and the normal
+-- forms of a rule with all fourteen words. Assumes nothing.
 use mathlib.Core.List.{List, [], _∷_}
-use Rattle.normal_form.specs.declared.sign.Sign.the-variants.{Plain}
+use Rattle.normal_form.specs.declared.sign.Sign.the-variants.{Plain, Negated}
 use Rattle.judging.specs.declared.verdict.Verdict.the-variants.{Holds, Breaks, Kept, Broken, Open}
 use Rattle.sheet_check.specs.declared.finding.Finding.the-variants.{Failed, Starved, Passes}
 use Rattle.cases.specs.Case.{File, Case}
@@ -94,6 +95,93 @@ open-1 = "format=1" ∷ "signals=1" ∷ "cycles=1" ∷ "loop=none" ∷ "c0=1" �
 abbrev pub printedA : File
 printedA = "signals=2" ∷ "rows=5" ∷ "cycles=2" ∷ "loop=0" ∷ "verdict=holds" ∷ []
 
+-- the other verdicts
+abbrev pub printedBreaks : File
+printedBreaks = "signals=2" ∷ "rows=5" ∷ "cycles=2" ∷ "loop=1" ∷ "verdict=breaks" ∷ []
+
+abbrev pub printedKept : File
+printedKept = "signals=2" ∷ "rows=3" ∷ "cycles=2" ∷ "loop=none" ∷ "verdict=kept" ∷ []
+
+abbrev pub printedBroken : File
+printedBroken = "signals=2" ∷ "rows=3" ∷ "cycles=2" ∷ "loop=none" ∷ "verdict=broken" ∷ []
+
+abbrev pub printedOpen : File
+printedOpen = "signals=2" ∷ "rows=3" ∷ "cycles=2" ∷ "loop=none" ∷ "verdict=open" ∷ []
+
+-- "A file that cannot be opened counts as empty (2, line 1)"; a loop that is not below `cycles`
+abbrev pub empty : File
+empty = []
+
+abbrev pub loop2-10-10 : File
+loop2-10-10 = "format=1" ∷ "signals=2" ∷ "cycles=2" ∷ "loop=2" ∷ "c0=10" ∷ "c1=10" ∷ []
+
+abbrev pub refusedEmpty : File
+refusedEmpty = "refused=2" ∷ "file=1" ∷ "line=1" ∷ []
+
+abbrev pub refusedLoop : File
+refusedLoop = "refused=6" ∷ "file=2" ∷ "line=4" ∷ []
+
+-- every word, and every partner in the negated rule's normal form
+abbrev pub ruleWords : File
+ruleWords =
+    "format=1" ∷
+    "signals=2" ∷
+    "rows=14" ∷
+    "r1=true" ∷
+    "r2=false" ∷
+    "r3=sig 1" ∷
+    "r4=nsig 2" ∷
+    "r5=not 3" ∷
+    "r6=and 1 4" ∷
+    "r7=or 2 5" ∷
+    "r8=next 6" ∷
+    "r9=always 7" ∷
+    "r10=ever 8" ∷
+    "r11=weak 9 10" ∷
+    "r12=until 3 11" ∷
+    "r13=release 4 12" ∷
+    "r14=srelease 11 13" ∷ []
+
+abbrev pub normalWords : File
+normalWords =
+    "format=1" ∷
+    "signals=2" ∷
+    "rows=14" ∷
+    "r1=true" ∷
+    "r2=false" ∷
+    "r3=sig 1" ∷
+    "r4=nsig 1" ∷
+    "r5=nsig 2" ∷
+    "r6=and 1 5" ∷
+    "r7=or 2 4" ∷
+    "r8=next 6" ∷
+    "r9=always 7" ∷
+    "r10=ever 8" ∷
+    "r11=weak 9 10" ∷
+    "r12=until 3 11" ∷
+    "r13=release 5 12" ∷
+    "r14=srelease 11 13" ∷ []
+
+abbrev pub negatedWords : File
+negatedWords =
+    "format=1" ∷
+    "signals=2" ∷
+    "rows=14" ∷
+    "r1=false" ∷
+    "r2=true" ∷
+    "r3=sig 1" ∷
+    "r4=nsig 1" ∷
+    "r5=sig 2" ∷
+    "r6=or 1 5" ∷
+    "r7=and 2 3" ∷
+    "r8=next 6" ∷
+    "r9=ever 7" ∷
+    "r10=always 8" ∷
+    "r11=srelease 9 10" ∷
+    "r12=release 4 11" ∷
+    "r13=until 5 12" ∷
+    "r14=weak 11 13" ∷ []
+
 -- "sheet for A on 10 01, loop 0: z1 to z5 are 01 01 11 11 11"; and with z3=00, with z2=00
 abbrev pub sheetA : File
 sheetA = "format=1" ∷ "rows=5" ∷ "cycles=2" ∷ "z1=01" ∷ "z2=01" ∷ "z3=11" ∷ "z4=11" ∷ "z5=11" ∷ []
@@ -109,6 +197,8 @@ cases =
     -- "Rule A: ..; bound 293. Its normal form, whole (P)"
     bound ruleA 293 ∷
     normal-form ruleA Plain normalA ∷
+    normal-form ruleWords Plain normalWords ∷
+    normal-form ruleWords Negated negatedWords ∷
     -- "P: A on 10 01, loop 0: `holds`. A on 10 10, loop 1: `breaks`. A on open 10: `open`."
     looped ruleA loop0-10-01 Holds ∷
     looped ruleA loop1-10-10 Breaks ∷
@@ -129,6 +219,12 @@ cases =
     opened ruleNext open-1 Open ∷
     -- "`judge` .. For A on 10 01, loop 0, it prints in full"
     prints ruleA loop0-10-01 printedA ∷
+    prints ruleA loop1-10-10 printedBreaks ∷
+    prints ruleUntil open-10-01 printedKept ∷
+    prints ruleUntil open-10-00 printedBroken ∷
+    prints ruleUntil open-10-10 printedOpen ∷
+    prints empty loop0-10-01 refusedEmpty ∷
+    prints ruleA loop2-10-10 refusedLoop ∷
     -- "P: sheet for A on 10 01, loop 0: z1 to z5 are 01 01 11 11 11. With z3=00: `failed`, row 4, cycle 0. With z2=00: `starved`, row 3."
     makes ruleA loop0-10-01 sheetA ∷
     checks ruleA loop0-10-01 sheetA Passes ∷
