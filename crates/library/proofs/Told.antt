@@ -30,7 +30,7 @@ use Rattle.normal_form.specs.Numbering.{normalForm}
 use Rattle.normal_form.proofs.Ranges.{form-normal}
 use Rattle.writing.specs.Answer.{tooShort, writtenAnswer}
 use Rattle.writing.specs.declared.answer.Bytes.the-variants.{Count, Refused as BytesRefused}
-use Rattle.normal_file.specs.Answer.{boundAnswer, normalAnswer, output, ownOutcome}
+use Rattle.normal_file.specs.Answer.{boundAnswer, boundOf, normalAnswer, output, ownOutcome}
 use Rattle.judging.specs.Refusals.{pairOutcome}
 use Rattle.judge_text.specs.Answer.{Prints}
 use Rattle.step.specs.Step.{formOutcome, rowsIn, stepAnswer, stepOutcome}
@@ -62,8 +62,8 @@ module _ (f : Formula) where
   pub bound-told : (n : ℕ) → boundAnswer f ≡ Count n → n ≤ 2845
   bound-told n answered = by (ownOutcome f) refl answered
     where
-      by : (o : Outcome) → ownOutcome f ≡ o → onOutcome o BytesRefused (Count (29 + 44 * f .rows)) ≡ Count n → n ≤ 2845
-      by Accepted e q = let same : 29 + 44 * f .rows ≡ n = cc in omega (arith, rule-checked f e .most-rows)
+      by : (o : Outcome) → ownOutcome f ≡ o → onOutcome o BytesRefused (Count (boundOf f)) ≡ Count n → n ≤ 2845
+      by Accepted e q = let same : boundOf f ≡ n = cc in omega (arith, rule-checked f e .most-rows)
       by (Refused why) e q = clash (cc)
 
   -- a step

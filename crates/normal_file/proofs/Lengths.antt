@@ -31,7 +31,7 @@ use Rattle.normal_form.proofs.Ranges.{rows-double, form-normal, form-rows}
 use Rattle.writing.specs.declared.answer.Bytes.the-variants.{Count, Refused as BytesRefused}
 use Rattle.writing.specs.Normal.{writtenNormal}
 use Rattle.writing.proofs.Texts.{decimal-one, decimal-two, decimal-three}
-use Rattle.normal_file.specs.Answer.{boundAnswer, output, ownOutcome}
+use Rattle.normal_file.specs.Answer.{boundAnswer, boundOf, output, ownOutcome}
 
 -- a number below 1000 takes three bytes at most
 pub decimal-most : (n : ℕ) → n < 1000 → length (decimal n) ≤ 3
@@ -94,6 +94,6 @@ output-most f s ok =
 pub bound-enough : (f : Formula) (s : Sign) (n : ℕ) → boundAnswer f ≡ Count n → length (output f s) ≤ n
 bound-enough f s n answered = by (ownOutcome f) refl answered
   where
-    by : (o : Outcome) → ownOutcome f ≡ o → onOutcome o BytesRefused (Count (29 + 44 * f .rows)) ≡ Count n → length (output f s) ≤ n
-    by Accepted e q = let same : 29 + 44 * f .rows ≡ n = cc in omega (arith, output-most f s (checked f e))
+    by : (o : Outcome) → ownOutcome f ≡ o → onOutcome o BytesRefused (Count (boundOf f)) ≡ Count n → length (output f s) ≤ n
+    by Accepted e q = let same : boundOf f ≡ n = cc in omega (arith, output-most f s (checked f e))
     by (Refused why) e q = clash (cc)

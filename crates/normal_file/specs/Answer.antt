@@ -32,5 +32,8 @@ abbrev pub normalLeft : Formula → Sign → List ℕ → List ℕ
 normalLeft f s buf = onOutcome (ownOutcome f) (λ r. buf) (overlaid (output f s) buf)
 
 -- "The bound service answers 29 + 44 × n bytes for a rule of n rows"
+abbrev pub boundOf : Formula → ℕ
+boundOf f = 29 + 44 * f .rows
+
 abbrev pub boundAnswer : Formula → Bytes
-boundAnswer f = onOutcome (ownOutcome f) BytesRefused (Count (29 + 44 * f .rows))
+boundAnswer f = onOutcome (ownOutcome f) BytesRefused (Count (boundOf f))
