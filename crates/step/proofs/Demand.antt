@@ -22,9 +22,9 @@ use Rattle.normal_form.proofs.Demand.{satisfied-alike}
 use Rattle.monitors.specs.Run.{Activators}
 use Rattle.monitors.proofs.Soundness.{outputFrom, HandedOn, Unfailing, active-row-true}
 use Rattle.step.specs.Step.{digitAt, rowsIn}
-use Rattle.step.specs.Calls.{Call, InOrder, handed, answered, left, TakeOf, StepsPass}
+use Rattle.step.specs.Calls.{Call, given, InOrder, kept, handed, answered, left, TakeOf, StepsPass}
 use Rattle.step.proofs.Order.{reached, later, first-unique, at-first, at-next, order-unique, listed, listed-in-order}
-use Rattle.step.proofs.Steps.{digit-one, digit-not-one, answered-range, left-failed, left-accept, handed-on, handed-back, handed-fresh}
+use Rattle.step.proofs.Steps.{digit-one, digit-not-one, answered-range, left-failed, left-accept, handed-on, kept-back, handed-fresh}
 
 module _ (f : Formula) (calls : ℕ → Call) where
   abbrev g : NormalForm
@@ -54,11 +54,15 @@ module _ (f : Formula) (calls : ℕ → Call) where
       where
         fresh : (k : ℕ) → k < suc (g .rows) → pending 0 k ≡ false
         fresh zero h = refl
-        fresh (suc k) h = ap (λ l. digitAt l (suc k)) (at-first order (handed f calls) (handed-back f calls)) ∙ handed-fresh f calls k (omega arith)
+        fresh (suc k) h =
+            let zeros : ℕ = calls (at 0) .zeros in
+            ap (λ x. digitAt (given x zeros) (suc k)) (at-first order (kept f calls) (kept-back f calls)) ∙ handed-fresh f calls zeros k
 
         next : (k : ℕ) → k < suc (g .rows) → (c : ℕ) → pending (suc c) k ≡ outputFrom table signals active pending c k .pending
         next zero h c = refl
-        next (suc k) h c = ap (λ l. digitAt l (suc k)) (at-next order (handed f calls) (handed-back f calls) c) ∙ handed-on f calls (at c) (order .each c) k (omega arith)
+        next (suc k) h c =
+            let zeros : ℕ = calls (at (suc c)) .zeros in
+            ap (λ x. digitAt (given x zeros) (suc k)) (at-next order (kept f calls) (kept-back f calls) c) ∙ handed-on f calls (at c) (order .each c) k (omega arith) zeros
 
     module _ (passes : StepsPass f calls classical) where
       none-fail : Unfailing table (suc (g .rows)) signals active pending

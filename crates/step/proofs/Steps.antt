@@ -1,16 +1,17 @@
 -- What an answered call of the step service leaves and hands on, byte by byte. Assumes nothing.
-use Prim.Native.Nat.{ℕ, suc, _+_, _*_, _-_, _<_}
+use Prim.Native.Nat.{ℕ, zero, suc, _+_, _*_, _-_, _<_}
 use mathlib.Core.Path.{_≡_, refl, sym, ap, _∙_}
 use mathlib.Core.Bool.{Bool, true, false}
 use mathlib.Core.List.{List, _++_, append-assoc}
 use native.Mathlib.Omega.{arith}
 use lib.Dec.{eqb}
-use lib.ListN.{length, getD, drop, length-append, getD-replicate, List·getD-append}
+use lib.ListN.{length, getD, drop, length-append, List·getD-append}
 use lib.Seq.{getD-append-add, take-at, drop-at}
 use Rattle.tables.specs.Place.{tabulate}
 use Rattle.tables.specs.Refusal.{onOutcome}
 use Rattle.tables.proofs.Places.{length-tabulate, getD-tabulate}
 use Rattle.tables.proofs.Outcomes.{both-accept}
+use Rattle.tables.specs.declared.refusal.Refusal.{Refusal}
 use Rattle.tables.specs.declared.refusal.Outcome.{Outcome}
 use Rattle.tables.specs.declared.refusal.Outcome.the-variants.{Accepted, Refused}
 use Rattle.tables.specs.declared.row.Formula.{Formula}
@@ -27,7 +28,7 @@ use Rattle.normal_form.specs.Numbering.{normalForm}
 use Rattle.writing.specs.declared.answer.Bytes.{Bytes}
 use Rattle.writing.specs.declared.answer.Bytes.the-variants.{Count, Refused as BytesRefused}
 use Rattle.step.specs.Step.{digitAt, digitOf, rowOutput, formOutcome, formOutput, rowsIn, stepOutcome, stepAnswer}
-use Rattle.step.specs.Calls.{Call, onAnswer, handed, answered, left}
+use Rattle.step.specs.Calls.{Call, Kept.fresh, Kept.wrote, given, onAnswer, kept, handed, answered, left}
 use Rattle.step.proofs.Outputs.{failedDigit, acceptDigit, pendingDigit}
 use Rattle.step.proofs.Answers.{answered-answer, answered-left}
 
@@ -129,11 +130,11 @@ module _ (f : Formula) (calls : ℕ → Call) (i : ℕ) where
     left-is : left f calls i ≡ formOutput g p a s ++ drop (3 * g .rows) (calls i .buffer)
     left-is = answered-left f p a s (calls i .buffer) (accepts e)
 
-    handed-is : handed f calls (suc i) ≡ tabulate (g .rows) (pendingDigit g p a s)
-    unfolding handed
-    handed-is =
+    kept-is : kept f calls (suc i) ≡ wrote (tabulate (g .rows) (pendingDigit g p a s))
+    unfolding kept
+    kept-is =
         rw (answered-answer f p a s (calls i .buffer) (accepts e))
-        (ap (part (2 * g .rows) (3 * g .rows)) left-is ∙ pending-part g p a s (drop (3 * g .rows) (calls i .buffer)))
+        (ap wrote (ap (part (2 * g .rows) (3 * g .rows)) left-is ∙ pending-part g p a s (drop (3 * g .rows) (calls i .buffer))))
 
     module _ (k : ℕ) (h : k < rowsIn f) where
       pub left-failed : getD (left f calls i) k 0 ≡ digitOf (rowOutput g p a s (suc k) .failed)
@@ -142,25 +143,29 @@ module _ (f : Formula) (calls : ℕ → Call) (i : ℕ) where
       pub left-accept : getD (left f calls i) (rowsIn f + k) 0 ≡ digitOf (rowOutput g p a s (suc k) .accept)
       left-accept = ap (λ l. getD l (rowsIn f + k) 0) left-is ∙ accept-byte g p a s (drop (3 * g .rows) (calls i .buffer)) k h
 
-      -- the pendings that the next call gets
-      pub handed-on : digitAt (handed f calls (suc i)) (suc k) ≡ rowOutput g p a s (suc k) .pending
-      handed-on =
+      -- the pendings that the next call gets, whatever number of zeros it would have got before
+      pub handed-on : (zeros : ℕ) → digitAt (given (kept f calls (suc i)) zeros) (suc k) ≡ rowOutput g p a s (suc k) .pending
+      handed-on zeros =
           let z : suc k - 1 ≡ k = omega arith in
-          ap (λ d. eqb d 49) (ap (λ m. getD (handed f calls (suc i)) m 0) z ∙ (ap (λ l. getD l k 0) handed-is ∙ getD-tabulate (g .rows) (pendingDigit g p a s) k 0 h))
-          ∙ digit-says (rowOutput g p a s (suc k) .pending)
+          ap (λ x. digitAt (given x zeros) (suc k)) kept-is
+          ∙ (ap (λ d. eqb d 49) (ap (λ m. getD (tabulate (g .rows) (pendingDigit g p a s)) m 0) z ∙ getD-tabulate (g .rows) (pendingDigit g p a s) k 0 h)
+          ∙ digit-says (rowOutput g p a s (suc k) .pending))
 
-  -- a refused call hands on what it got
-  pub handed-back : answered f calls i ≡ false → handed f calls (suc i) ≡ handed f calls i
-  unfolding handed
-  handed-back e = by (stepAnswer f p a s (calls i .buffer)) e
+  -- "A refused call changes none of them"
+  pub kept-back : answered f calls i ≡ false → kept f calls (suc i) ≡ kept f calls i
+  unfolding kept
+  kept-back e = rw (by (stepAnswer f p a s (calls i .buffer)) e .1) refl
     where
-      by : (b : Bytes) → onAnswer b true false ≡ false → onAnswer b (part (2 * rowsIn f) (3 * rowsIn f) (left f calls i)) p ≡ p
+      by : (b : Bytes) → onAnswer b true false ≡ false → (r : Refusal) × (b ≡ BytesRefused r)
       by (Count m) e = clash (cc)
-      by (BytesRefused r) e = refl
+      by (BytesRefused r) e = (r, refl)
 
--- "calls get pendings that are all 0"
-pub handed-fresh : (f : Formula) (calls : ℕ → Call) (k : ℕ) → k < rowsIn f → digitAt (handed f calls 0) (suc k) ≡ false
-unfolding handed
-handed-fresh f calls k h = let z : suc k - 1 ≡ k = omega arith in
-    let zero-digit : ℕ = 48 in
-    rw (z, getD-replicate (rowsIn f) k zero-digit 0 h)
+-- "calls get pendings that are all 0", however many
+pub handed-fresh : (f : Formula) (calls : ℕ → Call) (zeros k : ℕ) → digitAt (given (kept f calls 0) zeros) (suc k) ≡ false
+unfolding kept
+handed-fresh f calls zeros k = let z : suc k - 1 ≡ k = omega arith in rw z (by zeros k)
+  where
+    by : (n k : ℕ) → eqb (getD (given fresh n) k 0) 49 ≡ false
+    by zero k = refl
+    by (suc n) zero = refl
+    by (suc n) (suc k) = by n k

@@ -12,11 +12,24 @@ use Rattle.writing.specs.declared.answer.Bytes.{Bytes}
 use Rattle.writing.specs.declared.answer.Bytes.the-variants.{Count, Refused}
 use Rattle.step.specs.Step.{digitAt, rowsIn, stepAnswer, stepLeft}
 
--- "activators, signals and lent buffer may be any in each call"
+-- "activators, signals and lent buffer may be any in each call"; so may be the number of zeros that it gets until one is answered, which
+-- 01 does not fix
 pub record Call : Type 0 where
   pub activators : List ℕ
   pub signals : List ℕ
   pub buffer : List ℕ
+  pub zeros : ℕ
+
+-- what there is to hand on: nothing as long as no call has been answered, then what the last answered one wrote
+pub data Kept : Type 0 where
+  fresh : Kept
+  wrote : List ℕ → Kept
+
+-- "Until one is answered, calls get pendings that are all 0. After that each gets, as a copy that nobody else alters, the pendings
+-- that the last answered one wrote": the pendings of a call with so many zeros
+abbrev pub given : Kept → ℕ → List ℕ
+given fresh zeros = replicate zeros 48
+given (wrote pendings) zeros = pendings
 
 -- what follows of an answered call, and of a refused one
 abbrev pub onAnswer : {A : Type 0} → Bytes → A → A → A
@@ -32,15 +45,19 @@ pub record InOrder (answered : ℕ → Bool) (at : ℕ → ℕ) : Type 0 where
 
 -- "endless lists of step calls with one rule"
 module _ (f : Formula) (calls : ℕ → Call) where
-  -- "Until one is answered, calls get pendings that are all 0. After that each gets, as a copy that nobody else alters, the pendings
-  -- that the last answered one wrote. A refused call changes none of them": the pendings that call i gets
-  unfoldable pub handed : ℕ → List ℕ
-  handed zero = replicate (rowsIn f) 48
-  handed (suc i) =
+  -- what is kept when call i comes
+  unfoldable pub kept : ℕ → Kept
+  kept zero = fresh
+  kept (suc i) =
       let call = calls i in
-      onAnswer (stepAnswer f (handed i) (call .activators) (call .signals) (call .buffer))
-      (part (2 * rowsIn f) (3 * rowsIn f) (stepLeft f (handed i) (call .activators) (call .signals) (call .buffer)))
-      (handed i)  -- a refused call changes none
+      let pendings = given (kept i) (call .zeros) in
+      onAnswer (stepAnswer f pendings (call .activators) (call .signals) (call .buffer))
+      (wrote (part (2 * rowsIn f) (3 * rowsIn f) (stepLeft f pendings (call .activators) (call .signals) (call .buffer))))
+      (kept i)  -- "A refused call changes none of them"
+
+  -- the pendings that call i gets
+  abbrev pub handed : ℕ → List ℕ
+  handed i = given (kept i) (calls i .zeros)
 
   -- whether call i is answered, and what it leaves in its buffer: the digits of failed, then accept, then pending, each by row
   abbrev pub answered : ℕ → Bool
