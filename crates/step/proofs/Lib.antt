@@ -5,3 +5,4 @@ pub mod Answers
 pub mod Order
 pub mod Steps
 pub mod Demand
+pub mod Witness
