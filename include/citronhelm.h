@@ -3,7 +3,13 @@
  * definitions say, for every input (docs/CLAIMS.md).
  *
  * Files are given as bytes: a pointer and a length. A pointer may be of any value where its length is 0. No function keeps a pointer,
- * has a state, asks for memory or fails on any input. Input bytes are never altered. The output must not lie over an input.
+ * has a state or asks for memory. Input bytes are never altered.
+ *
+ * No function fails on any input. This presumes of the caller, and no proof can look at it:
+ *  - that each pointer is valid for its length: so many bytes are there to be read, and to be written where it is an output;
+ *  - that the output does not lie over an input;
+ *  - that the stack has the room below the call that CITRONHELM_STACK_... gives. With less, a process whose stack ends in a guard
+ *    page ends by a signal.
  *
  * Every function answers one number. Its highest bit is set where the call is refused; citronhelm_reason, citronhelm_file and
  * citronhelm_line then give the refusal's number, file and line. A refused call leaves the whole output as it was. Where a call is
@@ -38,6 +44,25 @@ extern "C" {
 #define CITRONHELM_MOST_NORMAL 2845u /* citronhelm_normal */
 #define CITRONHELM_MOST_STEP 384u    /* citronhelm_step */
 #define CITRONHELM_MOST_SHEET 33567u /* citronhelm_make_sheet */
+
+/*
+ * How much stack a call needs at most, in bytes below the call: measured and rounded up; the machine code takes no more on any input
+ * (docs/MEASURED.md, "Stack"). What memcpy and memset of the C library take is in it, but not what the dynamic loader takes to bind
+ * them at their first call, where a program is linked so: 3,184 bytes where it was measured.
+ */
+#define CITRONHELM_STACK_READ_RULE 2048u
+#define CITRONHELM_STACK_READ_TAKE 6144u
+#define CITRONHELM_STACK_READ_SHEET 13312u
+#define CITRONHELM_STACK_BOUND 2048u
+#define CITRONHELM_STACK_ROWS 4096u
+#define CITRONHELM_STACK_NORMAL 7168u
+#define CITRONHELM_STACK_JUDGE 17408u
+#define CITRONHELM_STACK_JUDGE_LOOPED 17408u
+#define CITRONHELM_STACK_JUDGE_OPEN 17408u
+#define CITRONHELM_STACK_JUDGE_TEXT 17408u
+#define CITRONHELM_STACK_STEP 4096u
+#define CITRONHELM_STACK_MAKE_SHEET 55296u
+#define CITRONHELM_STACK_CHECK_SHEET 25600u
 
 /* Whether an answer is a refusal; its number, file and line. */
 static inline int citronhelm_refused(uint64_t answer) { return (int)(answer >> 63); }

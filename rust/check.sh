@@ -1,6 +1,7 @@
 #!/usr/bin/env bash
-# Tries the library from C and from Rust: builds it, runs the C program over examples/, the tests of the Rust crates, the Rust program on
-# an example, and the comparison with the second implementation. Stops at the first failure; what a step printed is shown only then.
+# Tries the library from C and from Rust: builds it, holds its need of stack to the header's, runs the C program over examples/, the tests
+# of the Rust crates, the Rust program on an example, and the comparison with the second implementation. Stops at the first failure;
+# what a step printed is shown only then.
 #     rust/check.sh        CITRONHELM_LIB=FOLDER takes FOLDER/liblibrary.a in the place of building it
 set -euo pipefail
 cd "$(dirname "$0")/.."
@@ -29,6 +30,7 @@ fi
 CITRONHELM_LIB=$(realpath "$CITRONHELM_LIB")
 export CITRONHELM_LIB
 
+quietly bench/stack.py bound
 quietly cc -std=c99 -pedantic -Wall -Wextra -Werror -I include examples/c/judge.c "$CITRONHELM_LIB/liblibrary.a" -o "$scratch/judge"
 judged=0
 for folder in examples/*/; do
