@@ -26,7 +26,8 @@
  *    8  a looped service has an open take, or an open service a looped one
  *    9  the sheet's rows or cycles differ from the normal form's or the take's
  *   10  the output is shorter than what is to be written
- * File: 1 rule, 2 take, 3 sheet. Line: from 1; 0 for refusal 1. File and line are 0 for 7 to 10.
+ * File: 1 rule, 2 take, 3 sheet. Line: from 1; 0 for refusal 1. File and line are 0 for 7 to 10, and for a 2 of citronhelm_step that is
+ * not the rule's: by that it is told from one that is.
  * Files are read in the order rule, take, sheet; the first fault is the one that is told.
  */
 #ifndef CITRONHELM_H
@@ -101,7 +102,8 @@ uint64_t citronhelm_judge_looped(const uint8_t *rule, size_t rule_length, const 
 uint64_t citronhelm_judge_open(const uint8_t *rule, size_t rule_length, const uint8_t *take, size_t take_length);
 
 /*
- * Writes what the program `judge` prints for the two files: five lines with the verdict, or the three lines of a refusal. Answers the
+ * Writes what the program `judge` prints for the two files: five lines with the verdict, or the three lines of a refusal. It is a
+ * print-out and no service: files that are refused are answered too, and the output then has the refusal's lines. Answers the
  * text's length; refused with 10 only. At most CITRONHELM_MOST_TEXT bytes.
  */
 uint64_t citronhelm_judge_text(
@@ -116,6 +118,30 @@ uint64_t citronhelm_judge_text(
 uint64_t citronhelm_step(
     const uint8_t *rule, size_t rule_length, const uint8_t *pendings, size_t pendings_length, const uint8_t *activators,
     size_t activators_length, const uint8_t *signals, size_t signals_length, uint8_t *output, size_t output_length);
+
+/*
+ * The same with one buffer that is kept from call to call: 3 * rows digits, all '0' before the first cycle, where rows is what
+ * citronhelm_rows answers. Their last third are the pendings. Answers and leaves what citronhelm_step does with a copy of these for
+ * `pendings` and with all the digits for `output`; so a refused call changes nothing, and can be followed by another.
+ *
+ * For this the pendings are copied first. To hand citronhelm_step the last third of its own output for `pendings` is against what is
+ * presumed above, and no proof covers it. As the library is compiled today each row's pending is read before it is written, and
+ * all is as with a copy; a later library may do something else.
+ */
+static inline uint64_t citronhelm_step_in_place(
+    const uint8_t *rule, size_t rule_length, const uint8_t *activators, size_t activators_length, const uint8_t *signals,
+    size_t signals_length, uint8_t *digits, size_t rows)
+{
+    uint8_t pendings[CITRONHELM_MOST_STEP / 3];
+    size_t k;
+    if (rows > sizeof pendings) /* no rule has so many: refused, at the latest with 9, before an output is looked at */
+        return citronhelm_step(
+            rule, rule_length, digits + 2 * rows, rows, activators, activators_length, signals, signals_length, NULL, 0);
+    for (k = 0; k < rows; k++)
+        pendings[k] = digits[2 * rows + k];
+    return citronhelm_step(
+        rule, rule_length, pendings, rows, activators, activators_length, signals, signals_length, digits, 3 * rows);
+}
 
 /*
  * Writes the activator sheet of a rule and a take as a sheet file: a 1 where the row of the normal form is true at that cycle

@@ -1,7 +1,7 @@
 #!/usr/bin/env bash
-# Tries the library from C and from Rust: builds it, holds its need of stack to the header's, runs the C program over examples/, the tests
-# of the Rust crates, the Rust program on an example, and the comparison with the second implementation. Stops at the first failure;
-# what a step printed is shown only then.
+# Tries the library from C and from Rust: builds it, holds its need of stack to the header's, runs the C program over examples/, the test
+# of steps in place, the tests of the Rust crates, the Rust program on an example, and the comparison with the second implementation.
+# Stops at the first failure; what a step printed is shown only then.
 #     rust/check.sh        CITRONHELM_LIB=FOLDER takes FOLDER/liblibrary.a in the place of building it
 set -euo pipefail
 cd "$(dirname "$0")/.."
@@ -31,7 +31,10 @@ CITRONHELM_LIB=$(realpath "$CITRONHELM_LIB")
 export CITRONHELM_LIB
 
 quietly bench/stack.py bound
-quietly cc -std=c99 -pedantic -Wall -Wextra -Werror -I include examples/c/judge.c "$CITRONHELM_LIB/liblibrary.a" -o "$scratch/judge"
+compile=(cc -std=c99 -pedantic -Wall -Wextra -Werror -O2 -I include)
+quietly "${compile[@]}" tests/step_in_place.c "$CITRONHELM_LIB/liblibrary.a" -o "$scratch/step_in_place"
+quietly "$scratch/step_in_place"
+quietly "${compile[@]}" examples/c/judge.c "$CITRONHELM_LIB/liblibrary.a" -o "$scratch/judge"
 judged=0
 for folder in examples/*/; do
     [ -e "${folder}rule.txt" ] && [ -e "${folder}take.txt" ] && [ -e "${folder}expected.txt" ] || continue
@@ -48,4 +51,4 @@ export RUSTFLAGS="-D warnings"
 quietly cargo test --offline --locked --release --workspace
 quietly rust_answers ../examples/rule_a/rule.txt ../examples/rule_a/take.txt verdict=holds
 cargo run --quiet --offline --locked --release -p compare
-echo "rust/check.sh: C judged $judged examples; the Rust crates' tests pass; library and second implementation agree"
+echo "rust/check.sh: C judged $judged examples and stepped in place; the Rust crates' tests pass; library and second implementation agree"

@@ -7,7 +7,8 @@
 //! them is answered by a [`Refusal`] with its number, file and line. Outputs are written into slices that the caller lends; a
 //! refused call leaves them as they were, and an answered one leaves the bytes behind its output as they were.
 //!
-//! The services have no state and need no memory but the caller's; the two functions whose names end in `_vec` allocate.
+//! The services have no state and need no memory but the caller's; the two functions whose names end in `_vec` allocate. [`Monitors`]
+//! keeps what [`step`] needs from one cycle to the next.
 //!
 //! The example below, which the other examples use as well, says: always, when signal 1 is on, sooner or later signal 2 is.
 //!
@@ -39,5 +40,5 @@ pub use judging::{judge, judge_looped, judge_open, judge_text, MOST_TEXT};
 pub use reading::{bound, normal, normal_vec, read_rule, read_sheet, read_take, rows, MOST_NORMAL};
 pub use refusal::{File, Reason, Refusal};
 pub use sheets::{check_sheet, make_sheet, make_sheet_vec, MOST_SHEET};
-pub use steps::{step, MOST_STEP};
+pub use steps::{step, Monitors, Outputs, MOST_STEP};
 pub use verdict::Verdict;
