@@ -1,23 +1,31 @@
 #!/usr/bin/env bash
-# Runs a program in each folder of examples and holds what it prints to expected.txt; and where they are there, the programs `sheet`
-# and `check_sheet` and what they must print, expected-sheet.txt and expected-check_sheet.txt.
-#     examples/check.sh [PROGRAM [WORDS...]]      the program is target/bin/judge where none is given; `sheet` and `check_sheet` have its
-#                                                 path with their names in the place of `judge`
+# Runs `judge` in each folder of examples and holds what it prints to expected.txt; and `sheet` and `check_sheet` where a folder has what
+# they must print, expected-sheet.txt and expected-check_sheet.txt.
+#     examples/check.sh [PROGRAM [WORDS...]]      the three programs of target/bin; or PROGRAM in the place of `judge`, and of the other
+#                                                 two those whose path is PROGRAM's with their name in the place of `judge`
 set -euo pipefail
-judge=$(realpath "${1:-$(dirname "$0")/../target/bin/judge}")
+judge=$(realpath -m "${1:-$(dirname "$0")/../target/bin/judge}")
 cd "$(dirname "$0")"
+programs=("$judge" "${judge%judge}sheet" "${judge%judge}check_sheet")
+for program in "${programs[@]}"; do
+    [ -x "$program" ] && continue
+    echo "examples/check.sh: $program is not there" >&2
+    [ "$program" != "$judge" ] && [ $# -gt 0 ] && continue
+    echo "examples/check.sh: build the programs first: rt check judge sheet check_sheet" >&2
+    exit 1
+done
 failed=0
 for folder in */; do
-    for name in judge sheet check_sheet; do
-        program=$judge expected=${folder}expected.txt
-        if [ "$name" != judge ]; then
-            program=${judge%judge}$name expected=${folder}expected-$name.txt
+    for program in "${programs[@]}"; do
+        expected=${folder}expected.txt
+        if [ "$program" != "$judge" ]; then
+            expected=${folder}expected-${program##*/}.txt
             [ -x "$program" ] && [ -e "$expected" ] || continue
         fi
         if (cd "$folder" && "$program" "${@:2}") | cmp - "$expected"; then
-            echo "same ${folder%/} $name"
+            echo "same ${folder%/} ${program##*/}"
         else
-            echo "different ${folder%/} $name"
+            echo "different ${folder%/} ${program##*/}"
             failed=1
         fi
     done
