@@ -1,4 +1,4 @@
-//! Judging as fast as plain safe Rust does it, to measure the proved library against.
+//! Judging by operations on whole words, in safe Rust and unproved: a reference to measure the proved library against, and not the limit.
 //!
 //! A line holds a bit for each cycle, 64 to a word, the last cycle lowest. So what comes later lies lower, and an addition carries
 //! what is known of later cycles to earlier ones: until takes one addition (`line::until`). Rules are judged as they are written;
