@@ -71,7 +71,7 @@ fn put_text(buf: &mut [u8], rule: &[u8], take: &[u8], sheet: &[u8]) -> usize
     }
 }
 
-// SERVICE: the text of `check_sheet` for the bytes of a rule file, of a take file and of a sheet file, written whole or not at all.
+// PRINT-OUT: the text of `check_sheet` for the bytes of the three files, a refusal's lines included; whole or not at all.
 pub fn check(rule: &[u8], take: &[u8], sheet: &[u8], buf: &mut [u8]) -> Bytes
     ensures { λ r. ⌜ Prints (now (rule .entry)) (now (take .entry)) (now (sheet .entry)) (now (buf .entry)) (now (buf .exit)) r ⌝ }
 {

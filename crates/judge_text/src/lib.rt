@@ -55,7 +55,7 @@ fn put_text(buf: &mut [u8], rule: &[u8], take: &[u8]) -> usize
     }
 }
 
-// SERVICE: the text of `judge` for the bytes of a rule file and of a take file, written whole or not at all.
+// PRINT-OUT: the text of `judge` for the bytes of a rule file and of a take file, a refusal's lines included; whole or not at all.
 pub fn judge(rule: &[u8], take: &[u8], buf: &mut [u8]) -> Bytes
     ensures { λ r. ⌜ Prints (now (rule .entry)) (now (take .entry)) (now (buf .entry)) (now (buf .exit)) r ⌝ }
 {

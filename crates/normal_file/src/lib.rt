@@ -8,7 +8,7 @@ use tables::refusal::Refusal;
 use tables::row::Formula;
 use writing::answer::Bytes;
 
-// The file of the normal form of the formula (plain) or of its negation (negated), written whole or not at all. The output is
+// SERVICE: the file of the normal form of the formula (plain) or of its negation (negated), written whole or not at all. It is
 // made in an array of its own first, so that nothing half-written is ever seen.
 pub fn write_normal(formula: Formula, sign: Sign, buf: &mut [u8]) -> Bytes
     ensures { λ r. ⌜ r ≡ normalAnswer formula sign (now (buf .entry)) ⌝ }
@@ -34,7 +34,7 @@ pub fn write_normal(formula: Formula, sign: Sign, buf: &mut [u8]) -> Bytes
     }
 }
 
-// A bound on the length of the normal form's file, from the number of rows alone.
+// SERVICE: a bound on the length of the normal form's file, from the number of rows alone.
 pub fn bound(formula: Formula) -> Bytes
     ensures { λ r. ⌜ r ≡ boundAnswer formula ⌝ }
 {
