@@ -1,7 +1,8 @@
--- The contract of `check_sheet` leaves one text. Assumes nothing.
+-- The contract of `check_sheet` leaves one text, so one answer and one buffer. Assumes nothing.
 use Prim.Native.Nat.{ℕ}
 use mathlib.Core.Path.{_≡_, sym, ap, _∙_}
 use mathlib.Core.List.{List}
+use Rattle.tables.specs.Only.{TheOnlyPair}
 use Rattle.tables.specs.Refusal.{andThen}
 use Rattle.tables.specs.declared.refusal.Outcome.{Outcome}
 use Rattle.tables.specs.declared.refusal.Outcome.the-variants.{Accepted, Refused}
@@ -10,9 +11,15 @@ use Rattle.tables.specs.declared.trace.Activation.{Activation}
 use Rattle.tables.specs.declared.trace.Trace.{Trace}
 use Rattle.text.specs.Result.{Result}
 use Rattle.text.specs.Result.Result.{accepted, refused}
+use Rattle.rule_file.specs.Rule.{parseRule}
+use Rattle.take_file.specs.Take.{parseTake}
+use Rattle.sheet_file.specs.Sheet.{parseSheet}
+use Rattle.writing.specs.declared.answer.Bytes.{Bytes}
+use Rattle.writing.specs.Answer.{writtenAnswer}
+use Rattle.writing.specs.Lent.{overlaid}
 use Rattle.sheet_check.specs.Answer.{sevenOutcome, nineOutcome}
 use Rattle.check_text.specs.Text.{findingText}
-use Rattle.check_text.specs.Answer.{IsOutcomeText, IsCheckText}
+use Rattle.check_text.specs.Answer.{IsOutcomeText, IsCheckText, Prints}
 
 module _ (text other : List ℕ) where
   one-found : (o : Outcome) (f : Formula) (t : Trace) (a : Activation) → IsOutcomeText o f t a text → IsOutcomeText o f t a other → text ≡ other
@@ -24,3 +31,7 @@ module _ (text other : List ℕ) where
   one-text (accepted f) (refused e n) s x y = x ∙ sym y
   one-text (accepted f) (accepted t) (refused e n) x y = x ∙ sym y
   one-text (accepted f) (accepted t) (accepted a) x y = one-found (andThen (sevenOutcome f t) (nineOutcome f t a)) f t a x y
+
+module _ (rule take sheet before after : List ℕ) (answer : Bytes) where
+  pub only-prints : Prints rule take sheet before after answer → TheOnlyPair (Prints rule take sheet before) after answer
+  only-prints x = record { so = x; only = λ other reply y. let e = one-text (y .text) (x .text) (parseRule rule) (parseTake take) (parseSheet sheet) (y .is-text) (x .is-text) in (y .left ∙ ap (λ text. overlaid text before) e ∙ sym (x .left), y .answered ∙ ap (λ text. writtenAnswer text before) e ∙ sym (x .answered)) }

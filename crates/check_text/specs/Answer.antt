@@ -2,6 +2,7 @@
 use Prim.Native.Nat.{ℕ}
 use mathlib.Core.Path.{_≡_}
 use mathlib.Core.List.{List}
+use Rattle.tables.specs.Only.{TheOnlyPair}
 use Rattle.tables.specs.Refusal.{andThen}
 use Rattle.tables.specs.declared.refusal.Outcome.{Outcome}
 use Rattle.tables.specs.declared.refusal.Outcome.the-variants.{Accepted, Refused}
@@ -9,10 +10,13 @@ use Rattle.tables.specs.declared.row.Formula.{Formula}
 use Rattle.tables.specs.declared.trace.Activation.{Activation}
 use Rattle.tables.specs.declared.trace.Trace.{Trace}
 use Rattle.text.specs.Result.{Result}
+use Rattle.text.specs.Result.Result.{accepted}
 use Rattle.rule_file.specs.Rule.{parseRule}
 use Rattle.take_file.specs.Take.{parseTake}
-use Rattle.rule_and_take.specs.File.{OnFile, OnPair}
-use Rattle.sheet_file.specs.Sheet.{parseSheet}
+use Rattle.rule_and_take.specs.declared.Pair.{Pair}
+use Rattle.rule_and_take.specs.File.{OnFile, OnPair, pairRead}
+use Rattle.sheet_file.specs.declared.sheet.SheetAnswer.{SheetAnswer}
+use Rattle.sheet_file.specs.Sheet.{parseSheet, sheetAnswer}
 use Rattle.normal_form.specs.declared.sign.Sign.the-variants.{Plain}
 use Rattle.normal_form.specs.Numbering.{normalForm}
 use Rattle.writing.specs.declared.answer.Bytes.{Bytes}
@@ -45,3 +49,25 @@ pub record Prints (rule take sheet before after : List ℕ) (answer : Bytes) : T
   pub is-text : IsCheckText (parseRule rule) (parseTake take) (parseSheet sheet) text
   pub answered : answer ≡ writtenAnswer text before
   pub left : after ≡ overlaid text before
+
+-- the answer is what the bytes of some sheet file give
+abbrev pub SheetWasRead : SheetAnswer → Type 0
+SheetWasRead third = (sheet : List ℕ) × (third ≡ sheetAnswer (parseSheet sheet))
+
+-- the same of tables that were read, one file after the other: it is the text for whichever files they were read from
+abbrev pub IsSheetText : Formula → Trace → SheetAnswer → List ℕ → Type 0
+IsSheetText f t third text = (sheet : List ℕ) → third ≡ sheetAnswer (parseSheet sheet) → IsCheckText (accepted f) (accepted t) (parseSheet sheet) text
+
+abbrev pub IsReadText : Pair → SheetAnswer → List ℕ → Type 0
+IsReadText pair third text =
+    (rule take sheet : List ℕ)
+    → pair ≡ pairRead (parseRule rule) (parseTake take)
+    → third ≡ sheetAnswer (parseSheet sheet)
+    → IsCheckText (parseRule rule) (parseTake take) (parseSheet sheet) text
+
+abbrev pub PrintsRead : Pair → SheetAnswer → List ℕ → List ℕ → Bytes → Type 0
+PrintsRead pair third before after answer =
+    (rule take sheet : List ℕ)
+    → pair ≡ pairRead (parseRule rule) (parseTake take)
+    → third ≡ sheetAnswer (parseSheet sheet)
+    → TheOnlyPair (Prints rule take sheet before) after answer

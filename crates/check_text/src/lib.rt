@@ -1,5 +1,7 @@
 // The text that program `check_sheet` prints, from the bytes of its three files.
 use normal_form::sign::Sign;
+use rule_and_take::Pair;
+use sheet_file::sheet::SheetAnswer;
 use tables::refusal::Outcome;
 use tables::refusal::Reason;
 use tables::refusal::Refusal;
@@ -10,14 +12,13 @@ use writing::answer::Bytes;
 ghost use mathlib.Core.List.{List};
 ghost use lib.ListN.{length};
 ghost use Prim.Native.Nat.{ℕ, _≤_};
+ghost use Rattle.tables.specs.Only.{TheOnlyPair};
 ghost use Rattle.text.specs.Result.Result.{accepted};
-ghost use Rattle.rule_file.specs.Rule.{parseRule};
 ghost use Rattle.rule_file.specs.Valid.{InRange as FormulaInRange};
-ghost use Rattle.take_file.specs.Take.{parseTake};
 ghost use Rattle.take_file.specs.Valid.{InRange as TraceInRange};
-ghost use Rattle.sheet_file.specs.Sheet.{parseSheet};
+ghost use Rattle.rule_and_take.specs.File.{WasRead};
 ghost use Rattle.writing.specs.Lent.{Wrote};
-ghost use Rattle.check_text.specs.Answer.{IsCheckText, Prints};
+ghost use Rattle.check_text.specs.Answer.{IsCheckText, IsReadText, IsSheetText, Prints, PrintsRead, SheetWasRead};
 
 pub mod finding;
 
@@ -47,11 +48,10 @@ fn put_tables(buf: &mut [u8], formula: Formula, trace: Trace, activation: Activa
     writing::line::put_refusal(buf, 0, refusal)
 }
 
-fn put_sheet(buf: &mut [u8], formula: Formula, trace: Trace, sheet: &[u8]) -> usize
-    requires { ⌜ (64 ≤ length (now buf)) × FormulaInRange formula × TraceInRange trace ⌝ }
-    ensures { λ r. ⌜ ((text : List ℕ) × IsCheckText (accepted formula) (accepted trace) (parseSheet (now (sheet .entry))) text × Wrote (now (buf .entry)) 0 text (now (buf .exit)) r) ⌝ }
+fn put_sheet(buf: &mut [u8], formula: Formula, trace: Trace, third: SheetAnswer) -> usize
+    requires { ⌜ (64 ≤ length (now buf)) × FormulaInRange formula × TraceInRange trace × SheetWasRead third ⌝ }
+    ensures { λ r. ⌜ ((text : List ℕ) × IsSheetText formula trace third text × Wrote (now (buf .entry)) 0 text (now (buf .exit)) r) ⌝ }
 {
-    let third = sheet_file::sheet::read_sheet(sheet);
     let outcome = third.outcome;
     match outcome {
         Outcome::Refused(refusal) => writing::line::put_refusal(buf, 0, refusal),
@@ -59,24 +59,24 @@ fn put_sheet(buf: &mut [u8], formula: Formula, trace: Trace, sheet: &[u8]) -> us
     }
 }
 
-fn put_text(buf: &mut [u8], rule: &[u8], take: &[u8], sheet: &[u8]) -> usize
-    requires { ⌜ 64 ≤ length (now buf) ⌝ }
-    ensures { λ r. ⌜ ((text : List ℕ) × IsCheckText (parseRule (now (rule .entry))) (parseTake (now (take .entry))) (parseSheet (now (sheet .entry))) text × Wrote (now (buf .entry)) 0 text (now (buf .exit)) r) ⌝ }
+fn put_text(buf: &mut [u8], pair: Pair, third: SheetAnswer) -> usize
+    requires { ⌜ (64 ≤ length (now buf)) × WasRead pair × SheetWasRead third ⌝ }
+    ensures { λ r. ⌜ ((text : List ℕ) × IsReadText pair third text × Wrote (now (buf .entry)) 0 text (now (buf .exit)) r) ⌝ }
 {
-    let pair = rule_and_take::read_pair(rule, take);
     let outcome = pair.outcome;
     match outcome {
         Outcome::Refused(refusal) => writing::line::put_refusal(buf, 0, refusal),
-        Outcome::Accepted => put_sheet(buf, pair.formula, pair.trace, sheet),
+        Outcome::Accepted => put_sheet(buf, pair.formula, pair.trace, third),
     }
 }
 
-// PRINT-OUT: the text of `check_sheet` for the bytes of the three files, a refusal's lines included; whole or not at all.
-pub fn check(rule: &[u8], take: &[u8], sheet: &[u8], buf: &mut [u8]) -> Bytes
-    ensures { λ r. ⌜ Prints (now (rule .entry)) (now (take .entry)) (now (sheet .entry)) (now (buf .entry)) (now (buf .exit)) r ⌝ }
+// The text for tables that were read from files, written whole or not at all.
+pub fn check_read(pair: Pair, third: SheetAnswer, buf: &mut [u8]) -> Bytes
+    requires { ⌜ WasRead pair × SheetWasRead third ⌝ }
+    ensures { λ r. ⌜ PrintsRead pair third (now (buf .entry)) (now (buf .exit)) r ⌝ }
 {
     let mut space = [0u8; 64];
-    let n = put_text(&mut space, rule, take, sheet);
+    let n = put_text(&mut space, pair, third);
     if writing::put::deliver(&space[..n], buf) {
         Bytes::Count(n)
     } else {
@@ -86,4 +86,13 @@ pub fn check(rule: &[u8], take: &[u8], sheet: &[u8], buf: &mut [u8]) -> Bytes
             line: 0,
         })
     }
+}
+
+// PRINT-OUT: the text of `check_sheet` for the bytes of the three files, a refusal's lines included; whole or not at all.
+pub fn check(rule: &[u8], take: &[u8], sheet: &[u8], buf: &mut [u8]) -> Bytes
+    ensures { λ r. ⌜ TheOnlyPair (Prints (now (rule .entry)) (now (take .entry)) (now (sheet .entry)) (now (buf .entry))) (now (buf .exit)) r ⌝ }
+{
+    let pair = rule_and_take::read_pair(rule, take);
+    let third = sheet_file::sheet::read_sheet(sheet);
+    check_read(pair, third, buf)
 }

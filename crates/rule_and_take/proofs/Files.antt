@@ -15,12 +15,14 @@ use Rattle.text.specs.Result.Result.{accepted, refused}
 use Rattle.text.proofs.Answered.{refused-table}
 use Rattle.rule_file.specs.Rule.{parseRule, ruleAnswer}
 use Rattle.rule_file.specs.declared.rule.RuleAnswer.{RuleAnswer}
-use Rattle.rule_file.proofs.Rules.{rule-outcome-line}
+use Rattle.rule_file.specs.Valid.{InRange as FormulaInRange}
+use Rattle.rule_file.proofs.Rules.{rule-outcome-line, rule-read}
 use Rattle.take_file.specs.Take.{parseTake, takeAnswer}
 use Rattle.take_file.specs.declared.take.TakeAnswer.{TakeAnswer}
-use Rattle.take_file.proofs.Takes.{take-outcome-line}
+use Rattle.take_file.specs.Valid.{InRange as TraceInRange}
+use Rattle.take_file.proofs.Takes.{take-outcome-line, take-read}
 use Rattle.rule_and_take.specs.declared.Pair.{Pair}
-use Rattle.rule_and_take.specs.File.{OnFile, OnPair, pairRead}
+use Rattle.rule_and_take.specs.File.{OnFile, OnPair, pairRead, joined, WasRead}
 
 -- ---- one file
 module _ {A : Type 0} (file : ℕ) (p : Result A) (turns : Refusal → Type 0) (goes : A → Type 0) where
@@ -43,9 +45,9 @@ both-read (accepted f) (accepted t) h = (refl, refl)
 both-read (accepted f) (refused e n) h = refused-only refl h
 both-read (refused e n) q h = refused-only refl h
 
-pub pair-is : (p : Result Formula) (q : Result Trace) (a : RuleAnswer) (b : TakeAnswer) (o : Outcome) → a ≡ ruleAnswer p → b ≡ takeAnswer q
-    → o ≡ andThen (a .outcome) (b .outcome) → record { outcome = o; formula = a .formula; trace = b .trace } ≡ pairRead p q
-pair-is p q a b o e g h = rw (h, e, g) refl
+pub pair-is : (p : Result Formula) (q : Result Trace) (a : RuleAnswer) (b : TakeAnswer) (pair : Pair) → a ≡ ruleAnswer p → b ≡ takeAnswer q
+    → pair ≡ joined a b → pair ≡ pairRead p q
+pair-is p q a b pair e g h = rw (h, e, g) refl
 
 -- by the answer of the code
 module _ (p : Result Formula) (q : Result Trace) (a : Pair) (e : a ≡ pairRead p q) where
@@ -65,10 +67,23 @@ module _ (p : Result Formula) (q : Result Trace) (a : Pair) (e : a ≡ pairRead 
     pub pair-read : a .outcome ≡ Accepted → goes (a .formula) (a .trace) → OnPair p q turns goes
     pair-read h y = file-read 1 p turns _ (rule-is-read h) (file-read 2 q turns _ (take-is-read h) y)
 
--- a refusal's line has three digits at most
-pub pair-line : (rule take : List ℕ) (a : Pair) → a ≡ pairRead (parseRule rule) (parseTake take) → (x : Refusal) → a .outcome ≡ Refused x → x .line ≤ 261
-pair-line rule take a e x h = by (outcomeOf 1 (parseRule rule)) refl (said (parseRule rule) (parseTake take) a e h)
-  where
-    by : (o : Outcome) → outcomeOf 1 (parseRule rule) ≡ o → andThen o (outcomeOf 2 (parseTake take)) ≡ Refused x → x .line ≤ 261
-    by Accepted r g = take-outcome-line take x g
-    by (Refused y) r g = omega (arith, rule-outcome-line rule x (r ∙ g))
+-- by the bytes
+module _ (rule take : List ℕ) (a : Pair) (e : a ≡ pairRead (parseRule rule) (parseTake take)) where
+  read-range : a .outcome ≡ Accepted → FormulaInRange (a .formula) × TraceInRange (a .trace)
+  read-range h = (rule-read rule _ (rule-is-read (parseRule rule) (parseTake take) a e h) .1 .in-range, take-read take _ (take-is-read (parseRule rule) (parseTake take) a e h) .1 .range)
+
+  read-line : (x : Refusal) → a .outcome ≡ Refused x → x .line ≤ 261
+  read-line x h = by (outcomeOf 1 (parseRule rule)) refl (said (parseRule rule) (parseTake take) a e h)
+    where
+      by : (o : Outcome) → outcomeOf 1 (parseRule rule) ≡ o → andThen o (outcomeOf 2 (parseTake take)) ≡ Refused x → x .line ≤ 261
+      by Accepted r g = take-outcome-line take x g
+      by (Refused y) r g = omega (arith, rule-outcome-line rule x (r ∙ g))
+
+module _ (a : Pair) (was : WasRead a) where
+  -- tables that were read are in range
+  pub pair-range : a .outcome ≡ Accepted → FormulaInRange (a .formula) × TraceInRange (a .trace)
+  pair-range = read-range (was .rule) (was .take) a (was .is-read)
+
+  -- a refusal's line has three digits at most
+  pub pair-line : (x : Refusal) → a .outcome ≡ Refused x → x .line ≤ 261
+  pair-line = read-line (was .rule) (was .take) a (was .is-read)

@@ -1,9 +1,10 @@
--- The contract of `sheet` leaves one text. Assumes nothing.
-use mathlib.Core.Path.{_≡_, refl, sym, _∙_}
+-- The contract of `sheet` leaves one text, so one answer and one buffer. Assumes nothing.
+use mathlib.Core.Path.{_≡_, refl, sym, ap, _∙_}
 use mathlib.Core.Bool.{Bool, true, false}
 use mathlib.Core.List.{List}
 use Prim.Native.Nat.{ℕ}
 use lib.Dec.{eqb}
+use Rattle.tables.specs.Only.{TheOnlyPair}
 use Rattle.tables.specs.declared.row.Formula.{Formula}
 use Rattle.tables.specs.declared.trace.Trace.{Trace}
 use Rattle.text.specs.Result.{Result}
@@ -11,11 +12,15 @@ use Rattle.text.specs.Result.Result.{accepted, refused}
 use Rattle.rule_file.specs.Rule.{parseRule}
 use Rattle.rule_file.specs.Valid.{InRange}
 use Rattle.rule_file.proofs.Rules.{rule-read}
+use Rattle.take_file.specs.Take.{parseTake}
 use Rattle.normal_form.specs.declared.sign.Sign.the-variants.{Plain}
 use Rattle.normal_form.specs.Numbering.{normalForm}
 use Rattle.normal_form.proofs.Ranges.{form-normal}
+use Rattle.writing.specs.declared.answer.Bytes.{Bytes}
+use Rattle.writing.specs.Answer.{writtenAnswer}
+use Rattle.writing.specs.Lent.{overlaid}
 use Rattle.sheet_maker.proofs.Sheets.{made-unique}
-use Rattle.sheet_text.specs.Answer.{IsMadeText, IsMadeText.sheet, IsMadeText.none, IsPairText, IsText}
+use Rattle.sheet_text.specs.Answer.{IsMadeText, IsMadeText.sheet, IsMadeText.none, IsPairText, IsText, Prints}
 
 module _ (f : Formula) (t : Trace) (fine : InRange f) (text other : List ℕ) where
   one-made : IsMadeText f t text → IsMadeText f t other → text ≡ other
@@ -36,3 +41,7 @@ module _ (rule : List ℕ) (q : Result Trace) (text other : List ℕ) where
 
   pub one-text : IsText (parseRule rule) q text → IsText (parseRule rule) q other → text ≡ other
   one-text x y = on (parseRule rule) refl q x y
+
+module _ (rule take before after : List ℕ) (answer : Bytes) where
+  pub only-prints : Prints rule take before after answer → TheOnlyPair (Prints rule take before) after answer
+  only-prints x = record { so = x; only = λ other reply y. let e = one-text rule (parseTake take) (y .text) (x .text) (y .is-text) (x .is-text) in (y .left ∙ ap (λ text. overlaid text before) e ∙ sym (x .left), y .answered ∙ ap (λ text. writtenAnswer text before) e ∙ sym (x .answered)) }

@@ -6,13 +6,15 @@ use mathlib.Core.List.{List, [], _∷_, _++_}
 use lib.Dec.{eqb}
 use Rattle.tables.specs.Refusal.{numbered}
 use Rattle.tables.specs.Bytes.{bytes}
+use Rattle.tables.specs.Only.{TheOnlyPair}
 use Rattle.tables.specs.declared.row.Formula.{Formula}
 use Rattle.tables.specs.declared.trace.Activation.{Activation}
 use Rattle.tables.specs.declared.trace.Trace.{Trace}
 use Rattle.text.specs.Result.{Result}
 use Rattle.rule_file.specs.Rule.{parseRule}
 use Rattle.take_file.specs.Take.{parseTake}
-use Rattle.rule_and_take.specs.File.{OnPair}
+use Rattle.rule_and_take.specs.declared.Pair.{Pair}
+use Rattle.rule_and_take.specs.File.{OnPair, pairRead}
 use Rattle.sheet_file.specs.Written.{writtenSheet}
 use Rattle.normal_form.specs.declared.sign.Sign.the-variants.{Plain}
 use Rattle.normal_form.specs.Numbering.{normalForm}
@@ -46,3 +48,12 @@ pub record Prints (rule take before after : List ℕ) (answer : Bytes) : Type 0 
   pub is-text : IsText (parseRule rule) (parseTake take) text
   pub answered : answer ≡ writtenAnswer text before
   pub left : after ≡ overlaid text before
+
+-- the same of tables that were read, one file after the other: it is the text for whichever files they were read from
+abbrev pub IsReadText : Pair → List ℕ → Type 0
+IsReadText pair text =
+    (rule take : List ℕ) → pair ≡ pairRead (parseRule rule) (parseTake take) → IsText (parseRule rule) (parseTake take) text
+
+abbrev pub PrintsRead : Pair → List ℕ → List ℕ → Bytes → Type 0
+PrintsRead pair before after answer =
+    (rule take : List ℕ) → pair ≡ pairRead (parseRule rule) (parseTake take) → TheOnlyPair (Prints rule take before) after answer

@@ -1,4 +1,5 @@
 // The text that program `sheet` prints, from the bytes of its two files.
+use rule_and_take::Pair;
 use tables::refusal::Outcome;
 use tables::refusal::Reason;
 use tables::refusal::Refusal;
@@ -9,12 +10,12 @@ ghost use mathlib.Core.List.{List};
 ghost use lib.Dec.{eqb};
 ghost use lib.ListN.{length};
 ghost use Prim.Native.Nat.{ℕ, _≤_};
-ghost use Rattle.rule_file.specs.Rule.{parseRule};
+ghost use Rattle.tables.specs.Only.{TheOnlyPair};
 ghost use Rattle.rule_file.specs.Valid.{InRange as FormulaInRange};
-ghost use Rattle.take_file.specs.Take.{parseTake};
 ghost use Rattle.take_file.specs.Valid.{InRange as TraceInRange};
+ghost use Rattle.rule_and_take.specs.File.{WasRead};
 ghost use Rattle.writing.specs.Lent.{Wrote};
-ghost use Rattle.sheet_text.specs.Answer.{IsPairText, IsText, Prints};
+ghost use Rattle.sheet_text.specs.Answer.{IsPairText, IsReadText, Prints, PrintsRead};
 
 fn put_pair(buf: &mut [u8], formula: Formula, trace: Trace) -> usize
     requires { ⌜ (33567 ≤ length (now buf)) × FormulaInRange formula × TraceInRange trace ⌝ }
@@ -37,11 +38,10 @@ fn put_pair(buf: &mut [u8], formula: Formula, trace: Trace) -> usize
     writing::put::put(buf, 0, b"none\n")
 }
 
-fn put_text(buf: &mut [u8], rule: &[u8], take: &[u8]) -> usize
-    requires { ⌜ 33567 ≤ length (now buf) ⌝ }
-    ensures { λ r. ⌜ ((text : List ℕ) × IsText (parseRule (now (rule .entry))) (parseTake (now (take .entry))) text × Wrote (now (buf .entry)) 0 text (now (buf .exit)) r) ⌝ }
+fn put_text(buf: &mut [u8], pair: Pair) -> usize
+    requires { ⌜ (33567 ≤ length (now buf)) × WasRead pair ⌝ }
+    ensures { λ r. ⌜ ((text : List ℕ) × IsReadText pair text × Wrote (now (buf .entry)) 0 text (now (buf .exit)) r) ⌝ }
 {
-    let pair = rule_and_take::read_pair(rule, take);
     let outcome = pair.outcome;
     match outcome {
         Outcome::Refused(refusal) => writing::line::put_refusal(buf, 0, refusal),
@@ -49,12 +49,13 @@ fn put_text(buf: &mut [u8], rule: &[u8], take: &[u8]) -> usize
     }
 }
 
-// PRINT-OUT: the text of `sheet` for the bytes of a rule file and of a take file, a refusal's lines and `none` too; whole or not at all.
-pub fn sheet(rule: &[u8], take: &[u8], buf: &mut [u8]) -> Bytes
-    ensures { λ r. ⌜ Prints (now (rule .entry)) (now (take .entry)) (now (buf .entry)) (now (buf .exit)) r ⌝ }
+// The text for tables that were read from files, written whole or not at all.
+pub fn sheet_read(pair: Pair, buf: &mut [u8]) -> Bytes
+    requires { ⌜ WasRead pair ⌝ }
+    ensures { λ r. ⌜ PrintsRead pair (now (buf .entry)) (now (buf .exit)) r ⌝ }
 {
     let mut space = [0u8; 33567];
-    let n = put_text(&mut space, rule, take);
+    let n = put_text(&mut space, pair);
     if writing::put::deliver(&space[..n], buf) {
         Bytes::Count(n)
     } else {
@@ -64,4 +65,12 @@ pub fn sheet(rule: &[u8], take: &[u8], buf: &mut [u8]) -> Bytes
             line: 0,
         })
     }
+}
+
+// PRINT-OUT: the text of `sheet` for the bytes of a rule file and of a take file, a refusal's lines and `none` too; whole or not at all.
+pub fn sheet(rule: &[u8], take: &[u8], buf: &mut [u8]) -> Bytes
+    ensures { λ r. ⌜ TheOnlyPair (Prints (now (rule .entry)) (now (take .entry)) (now (buf .entry))) (now (buf .exit)) r ⌝ }
+{
+    let pair = rule_and_take::read_pair(rule, take);
+    sheet_read(pair, buf)
 }
