@@ -1,12 +1,11 @@
-// Reads `rule.txt` in the working folder and writes the file of its normal form to standard output, or the refusal.
+// Reads `rule.txt` in the working folder and writes the file of its normal form to standard output, or the refusal. What is written comes
+// from `normal_file::write_normal`; here the file is only read, through the buffer of `loading`, and bytes printed.
 use normal_form::sign::Sign;
 use tables::refusal::Outcome;
 use writing::answer::Bytes;
 
 fn main() {
-    let mut space = [0u8; 65537];
-    let n = files::load(b"rule.txt", &mut space);
-    let answer = rule_file::rule::read_rule(&space[..n]);
+    let answer = loading::rule();
     let outcome = answer.outcome;
     match outcome {
         Outcome::Refused(refusal) => printing::print_refusal(refusal),
