@@ -1,14 +1,13 @@
 // Prints, for each three of a rule file, a take file and a sheet file that its arguments name: the names, and the text of `check_sheet`.
-use libc::STDOUT_FILENO;
 use writing::answer::Bytes;
 
 fn print_names(first: &[u8], second: &[u8], third: &[u8]) {
-    io::write_all(STDOUT_FILENO, first);
-    io::write_all(STDOUT_FILENO, b" ");
-    io::write_all(STDOUT_FILENO, second);
-    io::write_all(STDOUT_FILENO, b" ");
-    io::write_all(STDOUT_FILENO, third);
-    io::write_all(STDOUT_FILENO, b"\n");
+    printing::print_bytes(first);
+    printing::print_bytes(b" ");
+    printing::print_bytes(second);
+    printing::print_bytes(b" ");
+    printing::print_bytes(third);
+    printing::print_bytes(b"\n");
 }
 
 fn report(first: &[u8], second: &[u8], third: &[u8]) {

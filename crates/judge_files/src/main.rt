@@ -1,5 +1,4 @@
 // Prints, for each pair of a rule file and a take file that its arguments name: the two names, and the text of `judge`.
-use libc::STDOUT_FILENO;
 use writing::answer::Bytes;
 
 fn report(first: &[u8], second: &[u8]) {
@@ -7,10 +6,10 @@ fn report(first: &[u8], second: &[u8]) {
     let n = files::load(first, &mut rule);
     let mut take = [0u8; 65537];
     let m = files::load(second, &mut take);
-    io::write_all(STDOUT_FILENO, first);
-    io::write_all(STDOUT_FILENO, b" ");
-    io::write_all(STDOUT_FILENO, second);
-    io::write_all(STDOUT_FILENO, b"\n");
+    printing::print_bytes(first);
+    printing::print_bytes(b" ");
+    printing::print_bytes(second);
+    printing::print_bytes(b"\n");
     let mut text = [0u8; 64];
     let answer = judge_text::judge(&rule[..n], &take[..m], &mut text);
     match answer {

@@ -1,17 +1,16 @@
 // Reads each file that its arguments name, as the kind that the name begins with (rule, take or sheet), and prints a line:
 // the name, and `ok` or the refusal's number, file and line.
-use libc::STDOUT_FILENO;
 use tables::refusal::Outcome;
 
 fn print_number(n: u64) {
-    io::write_all(STDOUT_FILENO, b" ");
-    io::print_decimal(STDOUT_FILENO, n);
+    printing::print_bytes(b" ");
+    printing::print_number(n);
 }
 
 fn print_outcome(outcome: Outcome) {
     match outcome {
         Outcome::Accepted => {
-            io::write_all(STDOUT_FILENO, b" ok");
+            printing::print_bytes(b" ok");
         }
         Outcome::Refused(refusal) => {
             let reason = refusal.reason;
@@ -41,9 +40,9 @@ fn report(name: &[u8]) {
     }
     let mut space = [0u8; 65537];
     let n = files::load(name, &mut space);
-    io::write_all(STDOUT_FILENO, name);
+    printing::print_bytes(name);
     print_outcome(read(name[0], &space[..n]));
-    io::write_all(STDOUT_FILENO, b"\n");
+    printing::print_bytes(b"\n");
 }
 
 fn report_argument(i: usize) {

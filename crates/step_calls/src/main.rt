@@ -1,13 +1,12 @@
 // Makes a step call for each five of its arguments: a rule file, pendings, activators, signals and the bytes to lend. Prints the first
 // four, the answer, and the lent bytes as the call left them.
-use libc::STDOUT_FILENO;
 use tables::refusal::Outcome;
 use tables::row::Formula;
 use writing::answer::Bytes;
 
 fn print_word(word: &[u8], end: &[u8]) {
-    io::write_all(STDOUT_FILENO, word);
-    io::write_all(STDOUT_FILENO, end);
+    printing::print_bytes(word);
+    printing::print_bytes(end);
 }
 
 fn print_answer(answer: Bytes) {

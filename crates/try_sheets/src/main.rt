@@ -2,7 +2,6 @@
 // verdict, and how many sheets pass the check.
 use judging::verdict::Answer;
 use judging::verdict::Verdict;
-use libc::STDOUT_FILENO;
 use normal_form::sign::Sign;
 use sheet_check::finding::CheckAnswer;
 use sheet_check::finding::Finding;
@@ -74,9 +73,9 @@ fn count_passing(formula: Formula, trace: Trace, rows: u8, end: u64) -> u64
 }
 
 fn print_word(word: &[u8]) {
-    io::write_all(STDOUT_FILENO, b"verdict=");
-    io::write_all(STDOUT_FILENO, word);
-    io::write_all(STDOUT_FILENO, b"\n");
+    printing::print_bytes(b"verdict=");
+    printing::print_bytes(word);
+    printing::print_bytes(b"\n");
 }
 
 fn print_verdict(answer: Answer) {
@@ -132,10 +131,10 @@ fn report(first: &[u8], second: &[u8]) {
     let n = files::load(first, &mut rule);
     let mut take = [0u8; 65537];
     let m = files::load(second, &mut take);
-    io::write_all(STDOUT_FILENO, first);
-    io::write_all(STDOUT_FILENO, b" ");
-    io::write_all(STDOUT_FILENO, second);
-    io::write_all(STDOUT_FILENO, b"\n");
+    printing::print_bytes(first);
+    printing::print_bytes(b" ");
+    printing::print_bytes(second);
+    printing::print_bytes(b"\n");
     let formula = rule_file::rule::read_rule(&rule[..n]);
     let trace = take_file::take::read_take(&take[..m]);
     try_all(formula.formula, trace.trace);

@@ -1,5 +1,4 @@
 // Prints, for each rule file that its arguments name: the name, the bound, the file of the normal form and that of the negation's.
-use libc::STDOUT_FILENO;
 use normal_form::sign::Sign;
 use tables::refusal::Outcome;
 use tables::row::Formula;
@@ -25,8 +24,8 @@ fn print_normal(formula: Formula, sign: Sign) {
 fn report(name: &[u8]) {
     let mut space = [0u8; 65537];
     let n = files::load(name, &mut space);
-    io::write_all(STDOUT_FILENO, name);
-    io::write_all(STDOUT_FILENO, b"\n");
+    printing::print_bytes(name);
+    printing::print_bytes(b"\n");
     let answer = rule_file::rule::read_rule(&space[..n]);
     let outcome = answer.outcome;
     match outcome {
