@@ -21,7 +21,7 @@ number WrongEnding = 8
 number SizeDiffers = 9
 number ShortBuffer = 10
 
--- the reason that the list gives this number: the definitions of what a service answers name their refusals by it
+-- the reason that the list gives this number, 1 to 10: the definitions of what a service answers name their refusals by it
 abbrev pub numbered : ℕ → Reason
 numbered n =
     pick (eqb n (number TooLong)) TooLong
