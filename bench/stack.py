@@ -3,12 +3,13 @@
 
     rt staticlib library && (cd bench && cargo build --release)
     bench/stack.py             measured, with the bound beside it
+    bench/stack.py lazy        measured with what the loader takes to bind memcpy and memset at their first call
     bench/stack.py bound       the bound alone, as the gate does it
 
-Both fail where include/citronhelm.h promises less than is needed.
+The first and the last fail where include/citronhelm.h promises less than is needed.
 
 Measured: each function on a painted stack (stack.c), on files of full size and on refused ones, with long and short outputs; the most
-that a call took. The program binds memcpy and memset when it starts (-z now), so that is not counted.
+that a call took.
 
 The bound is read off the machine code and is one for all inputs: the frames along the deepest path of calls. It can be read off since no
 function calls itself, none is called by pointer, and each moves its stack pointer by constants in its prologue and nowhere else; where
@@ -167,12 +168,12 @@ def calls(folder):
             yield 'check_sheet', [one, two, sheet], [0]
 
 
-def measured():
+def measured(binding):
     """For each function the number of calls, of those answered, and the most that one took."""
     counts = collections.defaultdict(lambda: [0, 0, 0])
     with tempfile.TemporaryDirectory() as folder:
         program = os.path.join(folder, 'stack')
-        subprocess.run(['cc', '-std=c99', '-O2', '-I', os.path.dirname(HEADER), os.path.join(ROOT, 'bench/stack.c'), LIBRARY, '-Wl,-z,now',
+        subprocess.run(['cc', '-std=c99', '-O2', '-I', os.path.dirname(HEADER), os.path.join(ROOT, 'bench/stack.c'), LIBRARY, *binding,
                         '-o', program], check=True)
         for name, inputs, lengths in calls(folder):
             names = [os.path.join(folder, str(number)) for number in range(len(inputs))]
@@ -188,12 +189,15 @@ def measured():
 
 
 def main():
+    word = ''.join(sys.argv[1:])
     bound, promise = bounds(), promised()
-    measure = {} if sys.argv[1:] == ['bound'] else measured()
+    measure = {} if word == 'bound' else measured(['-no-pie', '-Wl,-z,lazy'] if word == 'lazy' else ['-Wl,-z,now'])
     if measure:
         print('| function | calls | of them answered | most measured | bound | in the header |\n|---|---|---|---|---|---|')
         for name in promise:
             print('|', ' | '.join([f'`citronhelm_{name}`', *(f'{number:,}' for number in (*measure[name], bound[name], promise[name]))]), '|')
+    if word == 'lazy':
+        return
     wrong = [name for name in bound if not measure.get(name, [0])[-1] <= bound[name] <= promise.get(name, 0)]
     if wrong or bound.keys() != promise.keys():
         sys.exit(f'bench/stack.py: include/citronhelm.h promises less stack than is needed: {[(name, bound[name]) for name in wrong]}')

@@ -122,7 +122,8 @@ uint64_t citronhelm_step(
 /*
  * The same with one buffer that is kept from call to call: 3 * rows digits, all '0' before the first cycle, where rows is what
  * citronhelm_rows answers. Their last third are the pendings. Answers and leaves what citronhelm_step does with a copy of these for
- * `pendings` and with all the digits for `output`; so a refused call changes nothing, and can be followed by another.
+ * `pendings` and with all the digits for `output`; so a refused call changes nothing, and can be followed by another. The copy takes
+ * 128 bytes of stack beside CITRONHELM_STACK_STEP.
  *
  * For this the pendings are copied first. To hand citronhelm_step the last third of its own output for `pendings` is against what is
  * presumed above, and no proof covers it. As the library is compiled today each row's pending is read before it is written, and
