@@ -1,21 +1,25 @@
 -- A list of step calls that demand 3 speaks of, with refused ones in it, and its take: what the theorem asks for can be had. Rule A of
 -- 01 goes through 01's own take 10 01, again and again, with the activators of 01's own sheet. Assumes nothing.
 use Prim.Native.Nat.{ℕ, zero, suc, _+_, _*_, _≤_, _<_}
-use mathlib.Core.Path.{_≡_, refl, sym, ap, _∙_}
+use mathlib.Core.Path.{_≡_, refl, sym, ap, subst⁻¹, _∙_}
 use mathlib.Core.Bool.{Bool, true, false}
 use mathlib.Core.List.{List, [], _∷_, _++_}
 use native.Mathlib.Omega.{arith}
-use lib.ListN.{getD, replicate, getD-replicate, List·getD-append}
+use lib.ListN.{length, getD, drop, replicate, getD-replicate, List·getD-append}
 use lib.Seq.{getD-append-add}
 use Rattle.tables.specs.Bytes.{bytes, sameBytes}
 use Rattle.tables.specs.Kind.{kinds, kindAt, dualOf}
-use Rattle.tables.specs.Place.{tabulateFrom}
+use Rattle.tables.specs.Refusal.{andThen, onOutcome}
+use Rattle.tables.specs.Place.{tabulateFrom, placed}
+use Rattle.tables.specs.declared.refusal.Outcome.{Outcome}
+use Rattle.tables.specs.declared.refusal.Outcome.the-variants.{Accepted}
 use Rattle.tables.specs.declared.refusal.Reason.the-variants.{SizeDiffers, ShortBuffer}
-use Rattle.tables.specs.declared.row.SignalKind.the-variants.{Sig}
+use Rattle.tables.specs.declared.row.SignalKind.the-variants.{Sig, Nsig}
 use Rattle.tables.specs.declared.row.UnaryKind.the-variants.{Not, Always, Ever}
 use Rattle.tables.specs.declared.row.BinaryKind.the-variants.{Or}
 use Rattle.tables.specs.declared.row.Row.the-variants.{Signal, Unary, Binary}
 use Rattle.tables.specs.declared.row.Formula.{Formula}
+use Rattle.tables.specs.declared.row.NormalForm.{NormalForm}
 use Rattle.text.specs.Search.{part, further, firstWhere}
 use Rattle.tables.proofs.Choices.{clash}
 use Rattle.text.specs.Number.{digitsFrom, digitsOf, numberOf}
@@ -23,18 +27,20 @@ use Rattle.text.specs.Line.{cutOf, isNumbered, keyedLine}
 use Rattle.text.specs.Count.{countForm}
 use Rattle.text.specs.Digits.{areDigits}
 use Rattle.text.specs.Body.{bodyLines}
+use Rattle.text.specs.Result.{outcomeOf}
 use Rattle.text.specs.Written.{decimalIn, decimal, writtenBody}
 use Rattle.rule_row.specs.Row.{kindNamed, formOf, rowForm, rowValue}
-use Rattle.rule_file.specs.Rule.{formulaOf, parseRule}
+use Rattle.rule_file.specs.Rule.{inPlace, unused, formulaOf, parseRule}
 use Rattle.rule_file.specs.Written.{writtenRule}
 use Rattle.meaning.specs.Reading.{classical, literal, Some}
 use Rattle.meaning.specs.Trace.{InfiniteTrace}
 use Rattle.meaning.specs.Satisfaction.{Satisfies}
+use Rattle.normal_form.specs.declared.sign.Sign.the-variants.{Plain}
 use Rattle.normal_form.specs.Reach.{markedDown, reach}
 use Rattle.normal_form.specs.Numbering.{listing, normalListing, normalForm}
 use Rattle.writing.specs.declared.answer.Bytes.{Bytes}
 use Rattle.writing.specs.declared.answer.Bytes.the-variants.{Count, Refused}
-use Rattle.step.specs.Step.{digitAt, formOutput, rowsIn, stepAnswer, stepLeft}
+use Rattle.step.specs.Step.{digitAt, formOutcome, formOutput, rowsIn, stepAnswer}
 use Rattle.step.specs.Calls.{Call, Kept, Kept.fresh, Kept.wrote, given, onAnswer, kept, handed, answered, left, TakeOf, StepsPass}
 use Rattle.step.proofs.Demand.{steps-demand}
 
@@ -87,39 +93,69 @@ leaves (suc zero) = noneFailed ++ bytes "1101100101"
 leaves (suc (suc zero)) = noneFailed ++ (replicate 5 49 ++ bytes "00001")
 leaves (suc (suc (suc i))) = leaves i
 
-module _ (i : ℕ) (k : Kept) where
+-- what a call answers and leaves, and what is kept then, where the rule's own check and its normal form are these
+module _ (own : Outcome) (g : NormalForm) (i : ℕ) (k : Kept) where
+  abbrev pendings : List ℕ
+  pendings = given k (calls i .zeros)
+
+  abbrev outcome : Outcome
+  outcome = andThen own (formOutcome g pendings (calls i .activators) (calls i .signals) (length (calls i .buffer)))
+
   abbrev answerTo : Bytes
-  answerTo = stepAnswer ruleA (given k (calls i .zeros)) (calls i .activators) (calls i .signals) (calls i .buffer)
+  answerTo = onOutcome outcome Refused (Count (3 * g .rows))
 
   abbrev leftBy : List ℕ
-  leftBy = stepLeft ruleA (given k (calls i .zeros)) (calls i .activators) (calls i .signals) (calls i .buffer)
+  leftBy = onOutcome outcome (λ r. calls i .buffer) (formOutput g pendings (calls i .activators) (calls i .signals) ++ drop (3 * g .rows) (calls i .buffer))
 
   abbrev keptAfter : Kept
-  keptAfter = onAnswer answerTo (wrote (part (2 * rowsIn ruleA) (3 * rowsIn ruleA) leftBy)) k
+  keptAfter = onAnswer answerTo (wrote (part (2 * g .rows) (3 * g .rows) leftBy)) k
 
--- computed, for the five calls that differ
-done : (i : ℕ) (later : Bool) →
+abbrev Done : Outcome → NormalForm → ℕ → Bool → Type 0
+Done own g i later =
     let k = keptIn i later in
-    (answerTo i k ≡ answerIn i later) × (leftBy i k ≡ leaves i) × (keptAfter i k ≡ keptIn (suc i) later)
-unfolding parseRule keyedLine cutOf firstWhere further sameBytes countForm numberOf digitsOf digitsFrom bodyLines isNumbered rowValue rowForm formOf kindNamed kinds kindAt dualOf tabulateFrom writtenRule writtenBody decimal decimalIn markedDown reach listing normalListing normalForm areDigits formOutput
-done zero false = (refl, refl, refl)
-done zero true = (refl, refl, refl)
-done (suc zero) false = (refl, refl, refl)
-done (suc zero) true = (refl, refl, refl)
-done (suc (suc zero)) later = (refl, refl, refl)
-done (suc (suc (suc i))) later = done i true
+    (answerTo own g i k ≡ answerIn i later) × (leftBy own g i k ≡ leaves i) × (keptAfter own g i k ≡ keptIn (suc i) later)
+
+-- computed with rule A's normal form, for the five calls that differ
+abbrev formA : NormalForm
+formA = record { signals = 2; rows = 5; places = placed 128 inPlace unused (Signal Nsig 1 ∷ Signal Sig 2 ∷ Unary Ever 2 ∷ Binary Or 1 3 ∷ Unary Always 4 ∷ []) }
+
+computed : (i : ℕ) (later : Bool) → Done Accepted formA i later
+unfolding tabulateFrom areDigits formOutput
+computed zero false = (refl, refl, refl)
+computed zero true = (refl, refl, refl)
+computed (suc zero) false = (refl, refl, refl)
+computed (suc zero) true = (refl, refl, refl)
+computed (suc (suc zero)) later = (refl, refl, refl)
+computed (suc (suc (suc i))) later = computed i true
+
+-- rule A passes its check, and this is its normal form
+abbrev checked : Outcome
+checked = outcomeOf 1 (parseRule (writtenRule ruleA))
+
+checks : checked ≡ Accepted
+unfolding parseRule keyedLine cutOf firstWhere further sameBytes countForm numberOf digitsOf digitsFrom bodyLines isNumbered rowValue rowForm formOf kindNamed kinds kindAt tabulateFrom writtenRule writtenBody decimal decimalIn
+checks = refl
+
+abbrev form : NormalForm
+form = normalForm ruleA Plain
+
+form-is : form ≡ formA
+unfolding markedDown reach listing normalListing normalForm kinds kindAt dualOf tabulateFrom
+form-is = refl
+
+done : (i : ℕ) (later : Bool) → Done checked form i later
+done i later = subst⁻¹ (λ o. Done o form i later) checks (subst⁻¹ (λ g. Done Accepted g i later) form-is (computed i later))
 
 rows : rowsIn ruleA ≡ 5
-unfolding normalForm normalListing listing reach markedDown kinds kindAt dualOf tabulateFrom
-rows = refl
+rows = ap (λ (g : NormalForm). g .rows) form-is
 
 kept-is : (i : ℕ) → kept ruleA calls i ≡ keptIn i false
 unfolding kept
 kept-is zero = refl
-kept-is (suc i) = ap (keptAfter i) (kept-is i) ∙ done i false .2
+kept-is (suc i) = ap (keptAfter checked form i) (kept-is i) ∙ done i false .2
 
 pub witness-answers : (i : ℕ) → stepAnswer ruleA (handed ruleA calls i) (calls i .activators) (calls i .signals) (calls i .buffer) ≡ answerIn i false
-witness-answers i = ap (answerTo i) (kept-is i) ∙ done i false .0
+witness-answers i = ap (answerTo checked form i) (kept-is i) ∙ done i false .0
 
 -- so the first of each three calls is refused, and no other
 abbrev isCycle : ℕ → Bool
@@ -139,7 +175,7 @@ answered-is i = ap (λ r. onAnswer r true false) (witness-answers i) ∙ by i fa
     by (suc (suc (suc i))) later = by i true
 
 left-is : (i : ℕ) → left ruleA calls i ≡ leaves i
-left-is i = ap (leftBy i) (kept-is i) ∙ done i false .1
+left-is i = ap (leftBy checked form i) (kept-is i) ∙ done i false .1
 
 -- ---- what demand 3 asks of the list
 
