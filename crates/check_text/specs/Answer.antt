@@ -54,10 +54,12 @@ pub record Prints (rule take sheet before after : List ℕ) (answer : Bytes) : T
 abbrev pub SheetWasRead : SheetAnswer → Type 0
 SheetWasRead third = (sheet : List ℕ) × (third ≡ sheetAnswer (parseSheet sheet))
 
--- the same of tables that were read, one file after the other: it is the text for whichever files they were read from
+-- the text for a rule and a take in memory and a sheet that was read, whichever its file was
 abbrev pub IsSheetText : Formula → Trace → SheetAnswer → List ℕ → Type 0
-IsSheetText f t third text = (sheet : List ℕ) → third ≡ sheetAnswer (parseSheet sheet) → IsCheckText (accepted f) (accepted t) (parseSheet sheet) text
+IsSheetText f t third text =
+    (sheet : List ℕ) → third ≡ sheetAnswer (parseSheet sheet) → IsCheckText (accepted f) (accepted t) (parseSheet sheet) text
 
+-- the same of tables that were read, one file after the other: it is the text for whichever files they were read from
 abbrev pub IsReadText : Pair → SheetAnswer → List ℕ → Type 0
 IsReadText pair third text =
     (rule take sheet : List ℕ)
@@ -65,6 +67,7 @@ IsReadText pair third text =
     → third ≡ sheetAnswer (parseSheet sheet)
     → IsCheckText (parseRule rule) (parseTake take) (parseSheet sheet) text
 
+-- what such tables leave in the buffer, and the answer
 abbrev pub PrintsRead : Pair → SheetAnswer → List ℕ → List ℕ → Bytes → Type 0
 PrintsRead pair third before after answer =
     (rule take sheet : List ℕ)

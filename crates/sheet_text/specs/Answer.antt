@@ -54,6 +54,7 @@ abbrev pub IsReadText : Pair → List ℕ → Type 0
 IsReadText pair text =
     (rule take : List ℕ) → pair ≡ pairRead (parseRule rule) (parseTake take) → IsText (parseRule rule) (parseTake take) text
 
+-- what such tables leave in the buffer, and the answer
 abbrev pub PrintsRead : Pair → List ℕ → List ℕ → Bytes → Type 0
 PrintsRead pair before after answer =
     (rule take : List ℕ) → pair ≡ pairRead (parseRule rule) (parseTake take) → TheOnlyPair (Prints rule take before) after answer
