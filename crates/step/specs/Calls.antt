@@ -82,4 +82,5 @@ module _ (f : Formula) (calls : ℕ → Call) where
     -- "no monitor fails when no answered call writes a failed of 1"
     pub none-fails : (i k : ℕ) → answered i ≡ true → k < rowsIn f → ¬ (getD (left i) k 0 ≡ 49)
     -- "an accept keeps returning when its row's accept is 1 in endlessly many answered calls"
-    pub accepts-return : (k : ℕ) → k < rowsIn f → (i : ℕ) → Some R (λ j. (i ≤ j) × (answered j ≡ true) × (getD (left j) (rowsIn f + k) 0 ≡ 49))
+    pub accepts-return : (k : ℕ) → k < rowsIn f → (i : ℕ)
+        → Some R (λ j. (i ≤ j) × (answered j ≡ true) × (getD (left j) (rowsIn f + k) 0 ≡ 49))
