@@ -5,9 +5,9 @@ use mathlib.Core.List.{List}
 use Prim.Native.Nat.{ℕ, _≤_, _<_}
 use lib.Dec.{ltb}
 use lib.ListN.{length}
-use borrow.Author.Tests.{le-ltb, ltb-false}
-use Rattle.tables.specs.Choice.{pick}
+use borrow.Author.Tests.{lt-ltb, le-ltb, ltb-false}
 use Rattle.tables.specs.declared.refusal.Reason.{Reason}
+use Rattle.tables.specs.declared.refusal.Reason.the-variants.{WrongForm}
 use Rattle.text.specs.Number.{numberOf}
 use Rattle.text.specs.Count.{countForm, countedAs}
 use Rattle.text.specs.Line.{isKey, keyedLine}
@@ -16,19 +16,33 @@ use Rattle.text.specs.Result.Parsed.{good, bad}
 use Rattle.text.specs.Written.{decimal}
 use Rattle.text.specs.declared.line.Counted.{Counted}
 use Rattle.text.specs.declared.line.Counted.the-variants.{Count}
-use Rattle.text.specs.declared.number.Number.the-variants.{Is}
+use Rattle.text.specs.declared.number.Number.the-variants.{Is, Not}
 use Rattle.tables.proofs.Choices.{clash, each-pick}
 use Rattle.text.proofs.Numbers.{number-written, number-read, each-number}
 use Rattle.text.proofs.Lines.{line-inside, line-read}
 
--- a written count, in range or not
-pub count-form : (low high : ℕ) (outside : Reason) (n : ℕ) → n < 100000
-    → countForm low high outside (decimal n) ≡ pick (ltb n low) (bad outside) (pick (ltb high n) (bad outside) (good n))
-unfolding countForm
-count-form low high outside n h = rw (number-written n h)
+-- the value of a count, by its number
+module _ (low high : ℕ) (outside : Reason) (v : List ℕ) where
+  pub value-no-number : numberOf v ≡ Not → countForm low high outside v ≡ bad WrongForm
+  unfolding countForm
+  value-no-number e = rw e
 
+  module _ {n : ℕ} (e : numberOf v ≡ Is n) where
+    pub value-below : n < low → countForm low high outside v ≡ bad outside
+    unfolding countForm
+    value-below h = rw (e, lt-ltb n low h)
+
+    pub value-above : low ≤ n → high < n → countForm low high outside v ≡ bad outside
+    unfolding countForm
+    value-above l h = rw (e, le-ltb n low l, lt-ltb high n h)
+
+    pub value-within : low ≤ n → n ≤ high → countForm low high outside v ≡ good n
+    unfolding countForm
+    value-within l h = rw (e, le-ltb n low l, le-ltb high n h)
+
+-- a written count in range
 pub count-written : (low high : ℕ) (outside : Reason) (n : ℕ) → low ≤ n → n ≤ high → n < 100000 → countForm low high outside (decimal n) ≡ good n
-count-written low high outside n l u h = count-form low high outside n h ∙ rw (le-ltb n low l, le-ltb high n u)
+count-written low high outside n l u h = value-within low high outside (decimal n) (number-written n h) l u
 
 -- what is read of a count: its range and its text
 pub record CountOf (low high : ℕ) (v : List ℕ) (n : ℕ) : Type 0 where

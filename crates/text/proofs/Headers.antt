@@ -7,7 +7,7 @@ use native.Mathlib.Omega.{arith}
 use native.Mathlib.Decide.{decLt, ℕ-discrete}
 use lib.Dec.{eqb}
 use lib.ListN.{length, drop, length-append}
-use borrow.Author.Tests.{le-ltb, lt-ltb, eq-eqb, ne-eqb}
+use borrow.Author.Tests.{eq-eqb, ne-eqb}
 use Rattle.tables.specs.Choice.{pick}
 use Rattle.tables.specs.declared.refusal.Reason.{Reason}
 use Rattle.tables.specs.declared.refusal.Outcome.the-variants.{Accepted}
@@ -21,9 +21,9 @@ use Rattle.text.specs.declared.line.Counted.{Counted}
 use Rattle.text.specs.declared.line.Counted.the-variants.{Count, Wrong}
 use Rattle.tables.proofs.Choices.{clash}
 use Rattle.text.proofs.Searching.{same-refl, same-eq}
-use Rattle.text.proofs.Numbers.{decimal-small, decimal-large, decimal-length}
+use Rattle.text.proofs.Numbers.{number-written, decimal-small, decimal-large, decimal-length}
 use Rattle.text.proofs.Lines.{Free, free-append, line-step, line-read}
-use Rattle.text.proofs.Counts.{count-form, count-written, count-read}
+use Rattle.text.proofs.Counts.{value-below, value-above, count-written, count-read}
 
 -- ---- bytes that a text lacks
 
@@ -197,10 +197,10 @@ module _ (key : List ℕ) (low high : ℕ) (outside : Reason) {B : Type 0} (line
     count-in l u h = written ∙ rw (count-written low high outside n l u h)
 
     pub count-below : n < low → n < 100000 → Read (writtenLine key (decimal n) rest) ≡ refused outside line
-    count-below l h = written ∙ rw (count-form low high outside n h, lt-ltb n low l)
+    count-below l h = written ∙ rw (value-below low high outside (decimal n) (number-written n h) l)
 
     pub count-above : low ≤ n → high < n → n < 100000 → Read (writtenLine key (decimal n) rest) ≡ refused outside line
-    count-above l u h = written ∙ rw (count-form low high outside n h, le-ltb n low l, lt-ltb high n u)
+    count-above l u h = written ∙ rw (value-above low high outside (decimal n) (number-written n h) l u)
 
     -- where the file is accepted, the count is in range, whatever it is
     pub count-range : (x : B) → Read (writtenLine key (decimal n) rest) ≡ accepted x → (low ≤ n) × (n ≤ high) × (go n rest ≡ accepted x)

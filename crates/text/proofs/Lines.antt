@@ -106,6 +106,16 @@ each-cut : {A : Type 0} (P : A → Type 0) (c : Cut) {a : A} {f : ℕ → ℕ �
 each-cut P (Line i j) p q = q i j refl
 each-cut P Absent p q = p
 
+-- by where its two bytes are found
+module _ (rest : List ℕ) {end : ℕ} (f : firstOf 10 rest ≡ At end) where
+  pub cut-none : firstOf 61 (take end rest) ≡ Nothing → cutOf rest ≡ Absent
+  unfolding cutOf
+  cut-none g = rw (f, g)
+
+  pub cut-both : {equals : ℕ} → firstOf 61 (take end rest) ≡ At equals → cutOf rest ≡ Line equals end
+  unfolding cutOf
+  cut-both g = rw (f, g)
+
 -- where the two bytes of a line were found
 pub record CutAt (rest : List ℕ) (equals end : ℕ) : Type 0 where
   pub feed : At end ≡ firstOf 10 rest

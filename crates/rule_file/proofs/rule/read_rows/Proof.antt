@@ -35,10 +35,10 @@ loop-again : tie.Need-loop-again Inv-loop μ-loop
 loop-again c = rw rest-part (rows-more (c .before .before .before .before .before .before .loop .inv) (search needs) (c .before .before .before .before .before .before .before .before .pre .1) (sym (c .before .before .before .before .row-line .ensures) ∙ ap rowLineAs (c .before .before .line .given .1)))
 
 returns-2 : tie.Need-returns-2 Inv-loop μ-loop
-returns-2 c = c .refuse2 .ensures ∙ rows-surplus (c .before .before .before .loop .inv) (search needs) (c .before .if1 .taken)
+returns-2 c = c .refuse2 .ensures ∙ rows-surplus (c .before .before .before .loop .inv) (search needs) (λ z. omega arith)
 
 returns-3 : tie.Need-returns-3 Inv-loop μ-loop
-returns-3 c = rows-end (c .before .before .loop .inv) (search needs) (c .if1 .left)
+returns-3 c = rows-end (c .before .before .loop .inv) (search needs) (search needs)
 
 pub read-rows-spec : {M : Type 1} → statement M
 read-rows-spec =

@@ -1,4 +1,6 @@
 use mathlib.Core.Path.{_∙_, sym, ap}
+use native.Mathlib.Omega.{arith}
+use lib.ListN.{length}
 use borrow.Author.Tests.{lt-ltb, le-ltb}
 use Rattle.text.specs.Count.{countedAs, reasonOf}
 use Rattle.tables.proofs.Choices.{rest-part}
@@ -8,9 +10,13 @@ use borrow.Author.Needs.{needs}
 use Rattle.rule_file.proofs.rule.read_rule.Statement.{statement}
 use Rattle.rule_file.proofs.rule.read_rule.Tie as tie
 
+-- The ranges come first: a count that the code lets through beyond its range fails here.
+read-rows-requires : tie.Need-read-rows-requires
+read-rows-requires c κs = (omega (arith, counted _ _ _ _ _ (c .before .before .before .before .before .before .before .before .before .before .count-line2 .ensures) (c .before .before .before .before .before .before .before .before .second .given .1) .1), omega (arith, counted _ _ _ _ _ (c .before .before .before .before .count-line3 .ensures) (c .before .before .third .given .1) .1))
+
 returns : tie.Need-returns
 unfolding parseRule
-returns c = c .refuse .ensures ∙ rw (lt-ltb _ _ (c .before .if1 .taken))
+returns c = c .refuse .ensures ∙ rw (lt-ltb 65536 (length (c .before .before .before .args .file .now)) (search needs))
 
 returns-2 : tie.Need-returns-2
 unfolding parseRule
@@ -41,9 +47,6 @@ sub-read-rows c = counted _ _ _ _ _ (c .before .before .before .count-line3 .ens
 
 part-read-rows-start : tie.Need-part-read-rows-start
 part-read-rows-start c = counted _ _ _ _ _ (c .before .before .before .count-line3 .ensures) (c .before .third .given .1) .2
-
-read-rows-requires : tie.Need-read-rows-requires
-read-rows-requires c κs = (counted _ _ _ _ _ (c .before .before .before .before .before .before .before .before .before .before .count-line2 .ensures) (c .before .before .before .before .before .before .before .before .second .given .1) .1, counted _ _ _ _ _ (c .before .before .before .before .count-line3 .ensures) (c .before .before .third .given .1) .1)
 
 returns-5 : tie.Need-returns-5
 unfolding parseRule

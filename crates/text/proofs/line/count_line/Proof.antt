@@ -1,9 +1,9 @@
 use mathlib.Core.Path.{sym}
 use native.Mathlib.Omega.{arith}
 use lib.ListN.{length-take}
-use borrow.Author.Tests.{lt-ltb, le-ltb, not-true, not-false}
-use Rattle.text.specs.Count.{countForm}
+use borrow.Author.Tests.{not-true, not-false}
 use Rattle.tables.proofs.Choices.{know}
+use Rattle.text.proofs.Counts.{value-no-number, value-below, value-above, value-within}
 use Rattle.text.proofs.Lines.{cut-known, keyed-absent, keyed-other, keyed-bad, keyed-good}
 use borrow.Author.Needs.{needs}
 use Rattle.text.proofs.line.count_line.Statement.{statement}
@@ -31,23 +31,19 @@ part-read-number-end : tie.Need-part-read-number-end
 part-read-number-end c = omega (arith, cut-known _ (c .before .before .before .before .before .before .cut-line .ensures) (c .before .before .before .before .equals .given .1))
 
 returns-3 : tie.Need-returns-3
-unfolding countForm
-returns-3 c = sym (keyed-bad _ _ _ (know (c .before .before .before .before .before .before .before .before .before .before .cut-line .ensures) (c .before .before .before .before .before .before .before .before .equals .given .1)) (know (c .before .before .before .before .before .same .ensures) (not-false _ (c .before .before .before .before .if1 .left))) (rw (know (c .before .before .read-number .ensures) (c .enum-told2 .given .1))))
+returns-3 c = sym (keyed-bad _ _ _ (know (c .before .before .before .before .before .before .before .before .before .before .cut-line .ensures) (c .before .before .before .before .before .before .before .before .equals .given .1)) (know (c .before .before .before .before .before .same .ensures) (not-false _ (c .before .before .before .before .if1 .left))) (value-no-number _ _ _ _ (know (c .before .before .read-number .ensures) (c .enum-told2 .given .1))))
 
 returns-4 : tie.Need-returns-4
-unfolding countForm
-returns-4 c = sym (keyed-bad _ _ _ (know (c .before .before .before .before .before .before .before .before .before .before .before .before .cut-line .ensures) (c .before .before .before .before .before .before .before .before .before .before .equals .given .1)) (know (c .before .before .before .before .before .before .before .same .ensures) (not-false _ (c .before .before .before .before .before .before .if1 .left))) (rw (know (c .before .before .before .before .read-number .ensures) (c .before .before .n .given .1), lt-ltb _ _ (c .if2 .taken))))
+returns-4 c = sym (keyed-bad _ _ _ (know (c .before .before .before .before .before .before .before .before .before .before .before .before .cut-line .ensures) (c .before .before .before .before .before .before .before .before .before .before .equals .given .1)) (know (c .before .before .before .before .before .before .before .same .ensures) (not-false _ (c .before .before .before .before .before .before .if1 .left))) (value-below (c .before .before .before .before .before .before .before .before .before .before .before .before .before .before .before .args .low) _ _ _ (know (c .before .before .before .before .read-number .ensures) (c .before .before .n .given .1)) (c .if2 .taken)))
 
 returns-5 : tie.Need-returns-5
-unfolding countForm
-returns-5 c = sym (keyed-bad _ _ _ (know (c .before .before .before .before .before .before .before .before .before .before .before .before .before .cut-line .ensures) (c .before .before .before .before .before .before .before .before .before .before .before .equals .given .1)) (know (c .before .before .before .before .before .before .before .before .same .ensures) (not-false _ (c .before .before .before .before .before .before .before .if1 .left))) (rw (know (c .before .before .before .before .before .read-number .ensures) (c .before .before .before .n .given .1), le-ltb _ _ (c .before .if2 .left), lt-ltb _ _ (c .if3 .taken))))
+returns-5 c = sym (keyed-bad _ _ _ (know (c .before .before .before .before .before .before .before .before .before .before .before .before .before .cut-line .ensures) (c .before .before .before .before .before .before .before .before .before .before .before .equals .given .1)) (know (c .before .before .before .before .before .before .before .before .same .ensures) (not-false _ (c .before .before .before .before .before .before .before .if1 .left))) (value-above _ _ _ _ (know (c .before .before .before .before .before .read-number .ensures) (c .before .before .before .n .given .1)) (c .before .if2 .left) (c .if3 .taken)))
 
 add-t17 : tie.Need-add-t17
 add-t17 c = omega (arith, cut-known _ (c .before .before .before .before .before .before .before .before .before .before .before .before .before .cut-line .ensures) (c .before .before .before .before .before .before .before .before .before .before .before .equals .given .1))
 
 returns-6 : tie.Need-returns-6
-unfolding countForm
-returns-6 c = sym (keyed-good _ _ _ (know (c .before .before .before .before .before .before .before .before .before .before .before .before .before .cut-line .ensures) (c .before .before .before .before .before .before .before .before .before .before .before .equals .given .1)) (know (c .before .before .before .before .before .before .before .before .same .ensures) (not-false _ (c .before .before .before .before .before .before .before .if1 .left))) (rw (know (c .before .before .before .before .before .read-number .ensures) (c .before .before .before .n .given .1), le-ltb _ _ (c .before .if2 .left), le-ltb _ _ (c .if3 .left))))
+returns-6 c = sym (keyed-good _ _ _ (know (c .before .before .before .before .before .before .before .before .before .before .before .before .before .cut-line .ensures) (c .before .before .before .before .before .before .before .before .before .before .before .equals .given .1)) (know (c .before .before .before .before .before .before .before .before .same .ensures) (not-false _ (c .before .before .before .before .before .before .before .if1 .left))) (value-within _ _ _ _ (know (c .before .before .before .before .before .read-number .ensures) (c .before .before .before .n .given .1)) (c .before .if2 .left) (c .if3 .left)))
 
 pub count-line-spec : {M : Type 1} → statement M
 count-line-spec =

@@ -1,8 +1,10 @@
+use mathlib.Core.Path.{sym}
 use native.Mathlib.Omega.{arith}
 use lib.ListN.{length-take}
 use Rattle.text.specs.Line.{cutOf}
 use Rattle.tables.proofs.Choices.{know}
 use Rattle.text.proofs.Searching.{found}
+use Rattle.text.proofs.Lines.{cut-none, cut-both}
 use borrow.Author.Needs.{needs}
 use Rattle.text.proofs.line.cut_line.Statement.{statement}
 use Rattle.text.proofs.line.cut_line.Tie as tie
@@ -15,12 +17,10 @@ slice-aggregate-find : tie.Need-slice-aggregate-find
 slice-aggregate-find c = simp length-take (omega (arith, found _ _ 0 (c .before .before .before .before .find .ensures) (c .before .before .end .given .1) .below))
 
 returns-2 : tie.Need-returns-2
-unfolding cutOf
-returns-2 c = rw (know (c .before .before .before .before .before .before .before .find .ensures) (c .before .before .before .before .before .end .given .1), know (c .before .before .find2 .ensures) (c .enum-told2 .given .1))
+returns-2 c = sym (cut-none _ (know (c .before .before .before .before .before .before .before .find .ensures) (c .before .before .before .before .before .end .given .1)) (know (c .before .before .find2 .ensures) (c .enum-told2 .given .1)))
 
 returns-3 : tie.Need-returns-3
-unfolding cutOf
-returns-3 c = rw (know (c .before .before .before .before .before .before .before .before .find .ensures) (c .before .before .before .before .before .before .end .given .1), know (c .before .before .before .find2 .ensures) (c .before .equals .given .1))
+returns-3 c = sym (cut-both _ (know (c .before .before .before .before .before .before .before .before .find .ensures) (c .before .before .before .before .before .before .end .given .1)) (know (c .before .before .before .find2 .ensures) (c .before .equals .given .1)))
 
 pub cut-line-spec : {M : Type 1} → statement M
 cut-line-spec =
