@@ -84,8 +84,13 @@ Says (bound rule n) = OnRule rule (λ f. boundAnswer f ≡ Count n)
 Says (looped rule take v) = Answered loopedOutcome rule take (Judged v)
 Says (opened rule take v) = Answered openOutcome rule take (Judged v)
 Says (prints rule take text) = IsText (parseRule (fileBytes rule)) (parseTake (fileBytes take)) (fileBytes text)
-Says (makes rule take sheet) = OnRule rule (λ f. OnTake take (λ t. (before : List ℕ) → Makes f t before (overlaid (fileBytes sheet) before) (answerOf (writtenAnswer (fileBytes sheet) before))))
-Says (checks rule take sheet x) = OnRule rule (λ f. OnTake take (λ t. OnSheet sheet (λ a. CheckAnswers (checkOutcome f t a) f t a (Checked x))))
+Says (makes rule take sheet) =
+    OnRule rule
+    (λ f. OnTake take
+    (λ t. (before : List ℕ) → Makes f t before (overlaid (fileBytes sheet) before) (answerOf (writtenAnswer (fileBytes sheet) before))))
+Says (checks rule take sheet x) =
+    OnRule rule
+    (λ f. OnTake take (λ t. OnSheet sheet (λ a. CheckAnswers (checkOutcome f t a) f t a (Checked x))))
 
 -- every element is so
 pub data Each {A : Type 0} (P : A → Type 0) : List A → Type 0 where

@@ -25,7 +25,8 @@ pub mod finding;
 // Three tables that were read: 7, then 9, then the finding.
 fn put_tables(buf: &mut [u8], formula: Formula, trace: Trace, activation: Activation) -> usize
     requires { ⌜ (64 ≤ length (now buf)) × FormulaInRange formula × TraceInRange trace ⌝ }
-    ensures { λ r. ⌜ ((text : List ℕ) × IsCheckText (accepted formula) (accepted trace) (accepted activation) text × Wrote (now (buf .entry)) 0 text (now (buf .exit)) r) ⌝ }
+    ensures { λ r. ⌜ ((text : List ℕ) × IsCheckText (accepted formula) (accepted trace) (accepted activation) text
+        × Wrote (now (buf .entry)) 0 text (now (buf .exit)) r) ⌝ }
 {
     if formula.signals != trace.signals {
         let refusal = Refusal {
@@ -90,7 +91,8 @@ pub fn check_read(pair: Pair, third: SheetAnswer, buf: &mut [u8]) -> Bytes
 
 // PRINT-OUT: the text of `check_sheet` for the bytes of the three files, a refusal's lines included; whole or not at all.
 pub fn check(rule: &[u8], take: &[u8], sheet: &[u8], buf: &mut [u8]) -> Bytes
-    ensures { λ r. ⌜ TheOnlyPair (Prints (now (rule .entry)) (now (take .entry)) (now (sheet .entry)) (now (buf .entry))) (now (buf .exit)) r ⌝ }
+    ensures { λ r. ⌜ TheOnlyPair (Prints (now (rule .entry)) (now (take .entry)) (now (sheet .entry)) (now (buf .entry)))
+        (now (buf .exit)) r ⌝ }
 {
     let pair = rule_and_take::read_pair(rule, take);
     let third = sheet_file::sheet::read_sheet(sheet);

@@ -25,7 +25,8 @@ use Rattle.judge_text.specs.Text.{verdictText}
 
 -- the five lines with the verdict on a formula and a trace
 abbrev pub IsVerdictText : Formula → Trace → List ℕ → Type 0
-IsVerdictText f t text = (v : Verdict) × VerdictOf f t v × (text ≡ verdictText (f .signals) (normalForm f Plain .rows) (t .cycles) (t .ending) v)
+IsVerdictText f t text = (v : Verdict) × VerdictOf f t v
+    × (text ≡ verdictText (f .signals) (normalForm f Plain .rows) (t .cycles) (t .ending) v)
 
 -- 7: "Rule and take differ in `signals`", "file and line 0"
 abbrev pub IsPairText : Bool → Formula → Trace → List ℕ → Type 0

@@ -21,7 +21,8 @@ pub mod verdict;
 
 fn put_pair(buf: &mut [u8], formula: Formula, trace: Trace) -> usize
     requires { ⌜ (64 ≤ length (now buf)) × FormulaInRange formula × TraceInRange trace ⌝ }
-    ensures { λ r. ⌜ ((text : List ℕ) × IsPairText (eqb (formula .signals) (trace .signals)) formula trace text × Wrote (now (buf .entry)) 0 text (now (buf .exit)) r) ⌝ }
+    ensures { λ r. ⌜ ((text : List ℕ) × IsPairText (eqb (formula .signals) (trace .signals)) formula trace text
+        × Wrote (now (buf .entry)) 0 text (now (buf .exit)) r) ⌝ }
 {
     if formula.signals != trace.signals {
         let refusal = Refusal {

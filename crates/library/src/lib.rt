@@ -76,7 +76,9 @@ pub extern "C" fn citronhelm_rows(rule: &[u8]) -> u64
 // The file of the normal form, that of the negated rule where `negated` is not 0.
 #[no_mangle]
 pub extern "C" fn citronhelm_normal(rule: &[u8], negated: u8, output: &mut [u8]) -> u64
-    ensures { λ r. ⌜ OnFile 1 (parseRule (now (rule .entry))) (Turned (now (output .entry)) (now (output .exit)) r) (λ f. (r ≡ bytesCode (normalAnswer f (signOf negated) (now (output .entry)))) × (now (output .exit) ≡ normalLeft f (signOf negated) (now (output .entry)))) ⌝ }
+    ensures { λ r. ⌜ OnFile 1 (parseRule (now (rule .entry))) (Turned (now (output .entry)) (now (output .exit)) r)
+        (λ f. (r ≡ bytesCode (normalAnswer f (signOf negated) (now (output .entry))))
+        × (now (output .exit) ≡ normalLeft f (signOf negated) (now (output .entry)))) ⌝ }
 {
     let read = rule_file::rule::read_rule(rule);
     let outcome = read.outcome;
@@ -92,7 +94,8 @@ pub extern "C" fn citronhelm_normal(rule: &[u8], negated: u8, output: &mut [u8])
 // The verdict on a rule and a take of either kind; of a looped one; of an open one.
 #[no_mangle]
 pub extern "C" fn citronhelm_judge(rule: &[u8], take: &[u8]) -> u64
-    ensures { λ r. ⌜ OnPair (parseRule (now (rule .entry))) (parseTake (now (take .entry))) (λ why. r ≡ refusalCode why) (λ f t. JudgedAs (pairOutcome f t) f t r) ⌝ }
+    ensures { λ r. ⌜ OnPair (parseRule (now (rule .entry))) (parseTake (now (take .entry))) (λ why. r ≡ refusalCode why)
+        (λ f t. JudgedAs (pairOutcome f t) f t r) ⌝ }
 {
     let pair = rule_and_take::read_pair(rule, take);
     let outcome = pair.outcome;
@@ -104,7 +107,8 @@ pub extern "C" fn citronhelm_judge(rule: &[u8], take: &[u8]) -> u64
 
 #[no_mangle]
 pub extern "C" fn citronhelm_judge_looped(rule: &[u8], take: &[u8]) -> u64
-    ensures { λ r. ⌜ OnPair (parseRule (now (rule .entry))) (parseTake (now (take .entry))) (λ why. r ≡ refusalCode why) (λ f t. JudgedAs (loopedOutcome f t) f t r) ⌝ }
+    ensures { λ r. ⌜ OnPair (parseRule (now (rule .entry))) (parseTake (now (take .entry))) (λ why. r ≡ refusalCode why)
+        (λ f t. JudgedAs (loopedOutcome f t) f t r) ⌝ }
 {
     let pair = rule_and_take::read_pair(rule, take);
     let outcome = pair.outcome;
@@ -119,7 +123,8 @@ pub extern "C" fn citronhelm_judge_looped(rule: &[u8], take: &[u8]) -> u64
 
 #[no_mangle]
 pub extern "C" fn citronhelm_judge_open(rule: &[u8], take: &[u8]) -> u64
-    ensures { λ r. ⌜ OnPair (parseRule (now (rule .entry))) (parseTake (now (take .entry))) (λ why. r ≡ refusalCode why) (λ f t. JudgedAs (openOutcome f t) f t r) ⌝ }
+    ensures { λ r. ⌜ OnPair (parseRule (now (rule .entry))) (parseTake (now (take .entry))) (λ why. r ≡ refusalCode why)
+        (λ f t. JudgedAs (openOutcome f t) f t r) ⌝ }
 {
     let pair = rule_and_take::read_pair(rule, take);
     let outcome = pair.outcome;
@@ -146,7 +151,10 @@ pub extern "C" fn citronhelm_step(
     signals: &[u8],
     output: &mut [u8],
 ) -> u64
-    ensures { λ r. ⌜ OnFile 1 (parseRule (now (rule .entry))) (Turned (now (output .entry)) (now (output .exit)) r) (λ f. (r ≡ bytesCode (stepAnswer f (now (pendings .entry)) (now (activators .entry)) (now (signals .entry)) (now (output .entry)))) × (now (output .exit) ≡ stepLeft f (now (pendings .entry)) (now (activators .entry)) (now (signals .entry)) (now (output .entry)))) ⌝ }
+    ensures { λ r. ⌜ OnFile 1 (parseRule (now (rule .entry))) (Turned (now (output .entry)) (now (output .exit)) r)
+        (λ f. (r ≡ bytesCode (stepAnswer f (now (pendings .entry)) (now (activators .entry)) (now (signals .entry)) (now (output .entry))))
+        × (now (output .exit)
+        ≡ stepLeft f (now (pendings .entry)) (now (activators .entry)) (now (signals .entry)) (now (output .entry)))) ⌝ }
 {
     let read = rule_file::rule::read_rule(rule);
     let outcome = read.outcome;
@@ -165,7 +173,8 @@ pub extern "C" fn citronhelm_step(
 // The sheet of a rule and a take.
 #[no_mangle]
 pub extern "C" fn citronhelm_make_sheet(rule: &[u8], take: &[u8], output: &mut [u8]) -> u64
-    ensures { λ r. ⌜ OnPair (parseRule (now (rule .entry))) (parseTake (now (take .entry))) (Turned (now (output .entry)) (now (output .exit)) r) (λ f t. MadeAs f t (now (output .entry)) (now (output .exit)) r) ⌝ }
+    ensures { λ r. ⌜ OnPair (parseRule (now (rule .entry))) (parseTake (now (take .entry)))
+        (Turned (now (output .entry)) (now (output .exit)) r) (λ f t. MadeAs f t (now (output .entry)) (now (output .exit)) r) ⌝ }
 {
     let pair = rule_and_take::read_pair(rule, take);
     let outcome = pair.outcome;
@@ -182,7 +191,8 @@ pub extern "C" fn citronhelm_make_sheet(rule: &[u8], take: &[u8], output: &mut [
 // What a check of a sheet finds.
 #[no_mangle]
 pub extern "C" fn citronhelm_check_sheet(rule: &[u8], take: &[u8], sheet: &[u8]) -> u64
-    ensures { λ r. ⌜ OnPair (parseRule (now (rule .entry))) (parseTake (now (take .entry))) (λ why. r ≡ refusalCode why) (λ f t. OnFile 3 (parseSheet (now (sheet .entry))) (λ why. r ≡ refusalCode why) (λ a. CheckedAs f t a r)) ⌝ }
+    ensures { λ r. ⌜ OnPair (parseRule (now (rule .entry))) (parseTake (now (take .entry))) (λ why. r ≡ refusalCode why)
+        (λ f t. OnFile 3 (parseSheet (now (sheet .entry))) (λ why. r ≡ refusalCode why) (λ a. CheckedAs f t a r)) ⌝ }
 {
     let pair = rule_and_take::read_pair(rule, take);
     let outcome = pair.outcome;

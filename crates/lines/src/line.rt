@@ -108,7 +108,8 @@ pub fn last(cycles: usize) -> Line
 // Until over a recording of n cycles: at each of them the goal is met there or later, with keep up to it, or keep goes on to the end
 // and `ahead` holds behind it. `last` is the last cycle alone.
 pub fn until(keep: Line, goal: Line, last: Line, ahead: bool) -> Line
-    ensures { λ r. ⌜ ((n : ℕ) (k g : ℕ → Bool) → n ≤ 256 → Ends n k → Ends n g → keep ≡ lineOf k → goal ≡ lineOf g → last ≡ lineOf (λ i. eqb (suc i) n) → r ≡ lineOf (λ i. ltb i n && approximant k g ahead (n - i) i)) ⌝ }
+    ensures { λ r. ⌜ ((n : ℕ) (k g : ℕ → Bool) → n ≤ 256 → Ends n k → Ends n g → keep ≡ lineOf k → goal ≡ lineOf g
+        → last ≡ lineOf (λ i. eqb (suc i) n) → r ≡ lineOf (λ i. ltb i n && approximant k g ahead (n - i) i)) ⌝ }
 {
     if ahead {
         return carry(keep, either(goal, both(keep, last)));

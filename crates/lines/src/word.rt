@@ -27,7 +27,8 @@ fn twice(x: Stretch, s: u32) -> Stretch
 
 // At each cycle: the goal is met in this word, with keep up to it. Six doublings instead of 64 steps.
 pub fn carry_back(keep: u64, goal: u64) -> u64
-    ensures { λ r. ⌜ ((b : ℕ) (k g : ℕ → Bool) → Ends (b + 64) k → Ends (b + 64) g → keep ≡ wordFrom 64 b k → goal ≡ wordFrom 64 b g → r ≡ wordFrom 64 b (approximant k g false 64)) ⌝ }
+    ensures { λ r. ⌜ ((b : ℕ) (k g : ℕ → Bool) → Ends (b + 64) k → Ends (b + 64) g → keep ≡ wordFrom 64 b k → goal ≡ wordFrom 64 b g
+        → r ≡ wordFrom 64 b (approximant k g false 64)) ⌝ }
 {
     let one = Stretch { keep, goal };
     let two = twice(one, 1);
@@ -41,7 +42,8 @@ pub fn carry_back(keep: u64, goal: u64) -> u64
 
 // The same over several words: `later` is the word behind this one, whose first bit says what holds there.
 pub fn carry_from(keep: u64, goal: u64, later: u64) -> u64
-    ensures { λ r. ⌜ ((b : ℕ) (k g : ℕ → Bool) (x : Bool) → keep ≡ wordFrom 64 b k → goal ≡ wordFrom 64 b g → later % 2 ≡ pick x 1 0 → r ≡ wordFrom 64 b (λ i. approximant k g x (b + 64 - i) i)) ⌝ }
+    ensures { λ r. ⌜ ((b : ℕ) (k g : ℕ → Bool) (x : Bool) → keep ≡ wordFrom 64 b k → goal ≡ wordFrom 64 b g → later % 2 ≡ pick x 1 0
+        → r ≡ wordFrom 64 b (λ i. approximant k g x (b + 64 - i) i)) ⌝ }
 {
     if later % 2 == 1 {
         return carry_back(keep, goal | (keep & 0x8000_0000_0000_0000));
@@ -51,7 +53,8 @@ pub fn carry_from(keep: u64, goal: u64, later: u64) -> u64
 
 // What holds one cycle later; the later word's first bit comes in at the top.
 pub fn next_from(word: u64, later: u64) -> u64
-    ensures { λ r. ⌜ ((b : ℕ) (f : ℕ → Bool) → word ≡ wordFrom 64 b f → later % 2 ≡ pick (f (b + 64)) 1 0 → r ≡ wordFrom 64 b (λ i. f (suc i))) ⌝ }
+    ensures { λ r. ⌜ ((b : ℕ) (f : ℕ → Bool) → word ≡ wordFrom 64 b f → later % 2 ≡ pick (f (b + 64)) 1 0
+        → r ≡ wordFrom 64 b (λ i. f (suc i))) ⌝ }
 {
     if later % 2 == 1 {
         return word / 2 + 0x8000_0000_0000_0000;

@@ -38,7 +38,8 @@ pub record Normal (f : Formula) (sign : Sign) (number : ℕ → Sign → ℕ) (r
   -- themselves or their partners: "Taking a row negated takes its operands negated."
   pub says : (k : ℕ) (s : Sign) → Listed f sign k s → rowAt rows (number k s) ≡ withOperands (λ a. number a s) (signed s (rowOf f k))
   -- "once for each sign reached, in rising order of the old number, plain before negated"
-  pub order : (k : ℕ) (s : Sign) (k′ : ℕ) (s′ : Sign) → Listed f sign k s → Listed f sign k′ s′ → Before k s k′ s′ → number k s < number k′ s′
+  pub order : (k : ℕ) (s : Sign) (k′ : ℕ) (s′ : Sign) → Listed f sign k s → Listed f sign k′ s′ → Before k s k′ s′
+      → number k s < number k′ s′
   -- nothing else appears
   pub only : (x : ℕ) → 1 ≤ x → x ≤ length rows → (k : ℕ) × (s : Sign) × Listed f sign k s × (number k s ≡ x)
   -- "The result is a rule file": "An operand is the number of an earlier row",

@@ -42,7 +42,10 @@ shared r s l = record { numbers = snoc (l .numbers) (numberIn (l .numbers) (firs
 
 -- any other row is the next row: itself or its dual, with its operands' numbers
 abbrev pub nextRow : Row → Sign → Listing → Listing
-nextRow r s l = record { numbers = snoc (l .numbers) (length (l .rows) + 1); rows = snoc (l .rows) (renumbered (l .numbers) s (signed s r)) }
+nextRow r s l = record {
+  numbers = snoc (l .numbers) (length (l .rows) + 1);
+  rows = snoc (l .rows) (renumbered (l .numbers) s (signed s r));
+}
 
 abbrev pub listRow : Row → Sign → Listing → Listing
 listRow r s l = pick (isNot r) (shared r s l) (nextRow r s l)

@@ -21,7 +21,8 @@ ghost use Rattle.row_lines.specs.Pass.{nextPass, passBit, untilPass};
 // last one. One pass more would change nothing, since keep and goal repeat with the loop.
 fn temporal(keep: Line, goal: Line, weak: bool, run: Run) -> Line
     requires { ⌜ LoopBelow 256 (run .ending) ⌝ }
-    ensures { λ r. ⌜ ((n : ℕ) (k g : ℕ → Bool) → RunOf n run → Shows n keep k → Shows n goal g → Shows n r (untilPass n (run .ending) k g weak)) ⌝ }
+    ensures { λ r. ⌜ ((n : ℕ) (k g : ℕ → Bool) → RunOf n run → Shows n keep k → Shows n goal g
+        → Shows n r (untilPass n (run .ending) k g weak)) ⌝ }
 {
     let ending = run.ending;
     match ending {
@@ -81,7 +82,8 @@ pub fn signal(kind: SignalKind, line: Line, run: Run) -> Line
 // A row with one operand: ever a is until true a, always a is weak a false.
 pub fn unary(kind: UnaryKind, a: Line, run: Run) -> Line
     requires { ⌜ LoopBelow 256 (run .ending) ⌝ }
-    ensures { λ r. ⌜ ((n : ℕ) (q : ℕ → Bool) → RunOf n run → Shows n a q → Shows n r (passBit n (run .ending) (λ i. unaryLeft kind) (λ i. signedBit (positive kind) (q i)) (unaryPattern kind))) ⌝ }
+    ensures { λ r. ⌜ ((n : ℕ) (q : ℕ → Bool) → RunOf n run → Shows n a q
+        → Shows n r (passBit n (run .ending) (λ i. unaryLeft kind) (λ i. signedBit (positive kind) (q i)) (unaryPattern kind))) ⌝ }
 {
     match kind {
         UnaryKind::Not => lines::line::without(run.all, a),
@@ -94,7 +96,8 @@ pub fn unary(kind: UnaryKind, a: Line, run: Run) -> Line
 // A row with two operands: release a b is weak b (a and b), and srelease a b is until b (a and b).
 pub fn binary(kind: BinaryKind, a: Line, b: Line, run: Run) -> Line
     requires { ⌜ LoopBelow 256 (run .ending) ⌝ }
-    ensures { λ r. ⌜ ((n : ℕ) (p q : ℕ → Bool) → RunOf n run → Shows n a p → Shows n b q → Shows n r (passBit n (run .ending) p q (binaryPattern kind))) ⌝ }
+    ensures { λ r. ⌜ ((n : ℕ) (p q : ℕ → Bool) → RunOf n run → Shows n a p → Shows n b q
+        → Shows n r (passBit n (run .ending) p q (binaryPattern kind))) ⌝ }
 {
     match kind {
         BinaryKind::And => lines::line::both(a, b),

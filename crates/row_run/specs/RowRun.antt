@@ -33,10 +33,12 @@ along course f i = f (position (course .cycles) (course .start) i)
 
 module _ (row : Row) (reads : Reads) (course : Course) where
   abbrev pub courseOutput : ℕ → Output
-  courseOutput i = rowOutput row (along course (bitAt (reads .active))) (along course (bitAt (reads .first))) (along course (bitAt (reads .second))) i
+  courseOutput i = rowOutput row (along course (bitAt (reads .active))) (along course (bitAt (reads .first)))
+      (along course (bitAt (reads .second))) i
 
   abbrev pub coursePending : ℕ → Bool
-  coursePending i = rowPending row (along course (bitAt (reads .active))) (along course (bitAt (reads .first))) (along course (bitAt (reads .second))) i
+  coursePending i = rowPending row (along course (bitAt (reads .active))) (along course (bitAt (reads .first)))
+      (along course (bitAt (reads .second))) i
 
   -- some accept of the cycles that count, up to i
   pub record AcceptedTo (i : ℕ) (accepted : Bool) : Type 0 where

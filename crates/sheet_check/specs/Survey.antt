@@ -57,7 +57,9 @@ module _ (g : NormalForm) (t : Trace) (a : Activation) (course : Course) where
   pub record SurveyTo (m : ℕ) (s : Survey) : Type 0 where
     pub within : s .cycle ≤ course .end
     pub clean : (i k : ℕ) → i < s .cycle → k < m → said i (suc k) .failed ≡ false
-    pub fails : s .cycle < course .end → LowestOf (λ k. said (s .cycle) (suc k) .failed ≡ false) (λ k. said (s .cycle) (suc k) .failed ≡ true) m (s .failed)
+    pub fails : s .cycle < course .end → LowestOf (λ k. said (s .cycle) (suc k) .failed ≡ false)
+        (λ k. said (s .cycle) (suc k) .failed ≡ true) m (s .failed)
     pub named : s .cycle < course .end → 1 ≤ s .failed
     pub starved : s .cycle ≡ course .end → LowestOf Accepts Starves m (s .starved)
-    pub pending : s .cycle ≡ course .end → LowestOf (λ k. waiting (course .end) (suc k) ≡ false) (λ k. waiting (course .end) (suc k) ≡ true) m (s .pending)
+    pub pending : s .cycle ≡ course .end → LowestOf (λ k. waiting (course .end) (suc k) ≡ false)
+        (λ k. waiting (course .end) (suc k) ≡ true) m (s .pending)

@@ -42,7 +42,8 @@ fn refuse(reason: Reason, line: usize) -> SheetAnswer
 // The rows, one line each, and nothing behind them.
 fn read_rows(body: &[u8], rows: usize, cycles: usize) -> SheetAnswer
     requires { ⌜ (rows ≤ 128) × (cycles ≤ 256) ⌝ }
-    ensures { λ r. ⌜ r ≡ sheetAnswer (mapResult (activationOf rows cycles) (bodyLines 122 (λ r. digitsForm cycles) rows 1 4 (now (body .entry)))) ⌝ }
+    ensures { λ r. ⌜ r ≡ sheetAnswer (mapResult (activationOf rows cycles)
+        (bodyLines 122 (λ r. digitsForm cycles) rows 1 4 (now (body .entry)))) ⌝ }
 {
     let mut rest = body;
     let mut lines = [Line { words: [0; 4] }; 128];

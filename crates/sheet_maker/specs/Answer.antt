@@ -27,7 +27,9 @@ answerOf (BytesRefused why) = MakerRefused why
 -- a sheet, written whole or refused with 10; or "if the rule is not satisfied or not kept, the answer is `none`", and "`none` needs no
 -- buffer length and writes nothing"
 pub data Answers (f : Formula) (t : Trace) (before after : List ℕ) (answer : MakerAnswer) : Type 0 where
-  sheet : Satisfied f t → (a : Activation) → IsMade (normalForm f Plain) t a → answer ≡ answerOf (writtenAnswer (writtenSheet a) before) → after ≡ overlaid (writtenSheet a) before → Answers f t before after answer
+  sheet : Satisfied f t → (a : Activation) → IsMade (normalForm f Plain) t a
+      → answer ≡ answerOf (writtenAnswer (writtenSheet a) before)
+      → after ≡ overlaid (writtenSheet a) before → Answers f t before after answer
   none : ¬ Satisfied f t → answer ≡ None → after ≡ before → Answers f t before after answer
 
 -- "Files go rule, take"; "Then 7 to 10 in order"; a refused call leaves every byte

@@ -44,7 +44,8 @@ fn put_digits(buf: &mut [u8], at: usize, line: Line, cycles: u16) -> usize
 // The line of row `number`.
 fn put_row(buf: &mut [u8], at: usize, number: u8, line: Line, cycles: u16) -> usize
     requires { ⌜ (cycles ≤ 256) × (at + 262 ≤ length (now buf)) ⌝ }
-    ensures { λ r. ⌜ Wrote (now (buf .entry)) at (writtenLine (122 ∷ decimal number) (digitsText (tabulate cycles (bitAt line))) []) (now (buf .exit)) r ⌝ }
+    ensures { λ r. ⌜ Wrote (now (buf .entry)) at (writtenLine (122 ∷ decimal number) (digitsText (tabulate cycles (bitAt line))) [])
+        (now (buf .exit)) r ⌝ }
     ensures { λ r. ⌜ r ≤ at + 262 ⌝ }
 {
     let a = put_byte(&mut *buf, at, b'z');

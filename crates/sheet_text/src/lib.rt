@@ -19,7 +19,8 @@ ghost use Rattle.sheet_text.specs.Answer.{IsPairText, IsReadText, Prints
 
 fn put_pair(buf: &mut [u8], formula: Formula, trace: Trace) -> usize
     requires { ⌜ (33567 ≤ length (now buf)) × FormulaInRange formula × TraceInRange trace ⌝ }
-    ensures { λ r. ⌜ ((text : List ℕ) × IsPairText (eqb (formula .signals) (trace .signals)) formula trace text × Wrote (now (buf .entry)) 0 text (now (buf .exit)) r) ⌝ }
+    ensures { λ r. ⌜ ((text : List ℕ) × IsPairText (eqb (formula .signals) (trace .signals)) formula trace text
+        × Wrote (now (buf .entry)) 0 text (now (buf .exit)) r) ⌝ }
 {
     if formula.signals != trace.signals {
         let refusal = Refusal {

@@ -36,7 +36,8 @@ module _ (g : NormalForm) (pendings activators signals : List ℕ) where
   -- what row k's monitor says
   abbrev pub rowOutput : ℕ → Output
   rowOutput k =
-      monitor (digitAt activators) (digitAt signals) (tableOf (g .places) k) (record { active = digitAt activators k; pending = digitAt pendings k })
+      monitor (digitAt activators) (digitAt signals) (tableOf (g .places) k)
+      (record { active = digitAt activators k; pending = digitAt pendings k })
 
   -- "the digits of failed, then accept, then pending, each by row"
   unfoldable pub formOutput : List ℕ
@@ -66,7 +67,8 @@ stepOutput f pendings activators signals = formOutput (normalForm f Plain) pendi
 module _ (f : Formula) (pendings activators signals buf : List ℕ) where
   -- "After the rule's own refusals": "A table handed to a service is checked as if written out as its file"
   abbrev pub stepOutcome : Outcome
-  stepOutcome = andThen (outcomeOf 1 (parseRule (writtenRule f))) (formOutcome (normalForm f Plain) pendings activators signals (length buf))
+  stepOutcome = andThen (outcomeOf 1 (parseRule (writtenRule f)))
+      (formOutcome (normalForm f Plain) pendings activators signals (length buf))
 
   -- the first refusal, or how many bytes were written: three for each row
   abbrev pub stepAnswer : Bytes

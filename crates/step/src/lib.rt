@@ -56,7 +56,8 @@ fn row_output(row: Row, state: State, activators: &[u8], signals: &[u8]) -> Outp
 // The digits of all rows, at the buffer's start.
 fn put_outputs(buf: &mut [u8], form: NormalForm, pendings: &[u8], activators: &[u8], signals: &[u8])
     requires { ⌜ InNormalForm form × Fitting form (now pendings) (now activators) (now signals) (length (now buf)) ⌝ }
-    ensures { λ r. ⌜ now (buf .exit) ≡ formOutput form (now (pendings .entry)) (now (activators .entry)) (now (signals .entry)) ++ drop (3 * form .rows) (now (buf .entry)) ⌝ }
+    ensures { λ r. ⌜ now (buf .exit) ≡ formOutput form (now (pendings .entry)) (now (activators .entry)) (now (signals .entry))
+        ++ drop (3 * form .rows) (now (buf .entry)) ⌝ }
 {
     let rows = form.rows as usize;
     let mut k = 0;
@@ -113,7 +114,8 @@ pub fn step(
     buf: &mut [u8],
 ) -> Bytes
     ensures { λ r. ⌜ r ≡ stepAnswer formula (now (pendings .entry)) (now (activators .entry)) (now (signals .entry)) (now (buf .entry)) ⌝ }
-    ensures { λ r. ⌜ now (buf .exit) ≡ stepLeft formula (now (pendings .entry)) (now (activators .entry)) (now (signals .entry)) (now (buf .entry)) ⌝ }
+    ensures { λ r. ⌜ now (buf .exit) ≡ stepLeft formula (now (pendings .entry)) (now (activators .entry)) (now (signals .entry))
+        (now (buf .entry)) ⌝ }
 {
     let own = rule_file::check::check_formula(formula);
     match own {

@@ -45,7 +45,8 @@ fn refuse(reason: Reason, line: usize) -> TakeAnswer
 // The cycles, one line each, and nothing behind them.
 fn read_cycles(body: &[u8], signals: usize, cycles: usize, ending: Ending) -> TakeAnswer
     requires { ⌜ (signals ≤ 32) × (cycles ≤ 256) ⌝ }
-    ensures { λ r. ⌜ r ≡ takeAnswer (mapResult (traceOf signals cycles ending) (bodyLines 99 (λ c. digitsForm signals) cycles 0 5 (now (body .entry)))) ⌝ }
+    ensures { λ r. ⌜ r ≡ takeAnswer (mapResult (traceOf signals cycles ending)
+        (bodyLines 99 (λ c. digitsForm signals) cycles 0 5 (now (body .entry)))) ⌝ }
 {
     let mut rest = body;
     let mut words = [0; 128];

@@ -56,7 +56,8 @@ pub fn put_number(buf: &mut [u8], at: usize, n: u16) -> usize
 
 // An output goes into the lent buffer whole, or not at all.
 pub fn deliver(text: &[u8], buf: &mut [u8]) -> bool
-    ensures { λ r. ⌜ (r ≡ leb (length (now (text .entry))) (length (now (buf .entry)))) × (now (buf .exit) ≡ overlaid (now (text .entry)) (now (buf .entry))) ⌝ }
+    ensures { λ r. ⌜ (r ≡ leb (length (now (text .entry))) (length (now (buf .entry))))
+        × (now (buf .exit) ≡ overlaid (now (text .entry)) (now (buf .entry))) ⌝ }
 {
     if buf.len() < text.len() {
         return false;
