@@ -10,40 +10,40 @@ import pathlib
 import re
 import sys
 
-# Form, or nothing that one could tell: looked for first.
+# Form, or nothing that one could tell by; looked for first.
 FORM = [
-    r"`rw`: no occurrence|no part of (the goal|its type)|rewrites nothing|equations? (is|are|was|were) never applied",  # a rewrite misses
-    r"has no `?Need-|[Ee]xpected type `\S*Need-",  # other needs, or in another order
-    r"has no field|not in scope|is unknown|is private",  # another name
-    r"cannot continue|expected a |unexpected|more patterns|too many|arguments? more than|takes no ",  # it does not parse, or has other arguments
-    r"was not determined|stopped at|broke off",  # it was not decided
-    r"what the two types compute to is not shown",  # one cannot tell
+    r"`(rw|simp|grw)`: (no occurrence|no part)|rewrites nothing",  # a rewrite no longer finds its term
+    r"has no `?Need-|expected type `\S*Need-",  # other needs, or in another order
+    r"has no field|not in scope|is private",  # another name
+    r"cannot continue|was not expected|more patterns|arguments? more than",  # it does not parse, or has other arguments
+    r"is not admitted|was not determined|broke off|step limit",  # it was not decided
+    r"\A(?!.*as printed, the two types differ only).*what the two types compute to is not shown",  # two types too long to compare
 ]
 
-# Fact: a number, a value or a statement that the log shows.
+# Fact: the log shows a number, a value or a statement that fails.
 FACT = [
     r"`omega`: the goal does not follow .*the goal fails, at",  # arithmetic, with numbers at which it fails
-    r"computed as far as they go, the two (types|indices) ",  # two values or statements where one is asked for
+    r"computed as far as they go, the two (types|indices) (are|differ|first differ)",  # one thing is asked for, and another is there
     r"as printed, the two types differ only where",
-    r"expected type `[^…]*`,?\s+but this has type `[^…]*`",  # the same, both short enough to stand whole
-    r"what it leaves must be a path whose two ends are equal",  # an equation that is left when all is rewritten
-    r"it is not proved that .*`search`: no proof of",  # a need of a function that the prover proves by itself
+    r"expected type `[^…]*`,?\s+but this has type `[^…]*`",  # the same, where both are shown whole
+    r"`[^…]*` ≟ `[^…]*`: does not hold",
+    r"what it leaves must be a path whose two ends are equal",  # an equation is left when all is rewritten
+    r"it is not proved that .*`search`: no proof of",  # a need of a function that has no proof file: the prover's own search
 ]
 
 
 def first_error(log):
-    """The first error that is no consequence of another, with its indented lines; where there is none, the notes on a function that
-    has no proof file."""
+    """The first error that is no consequence of another, with its indented lines. Where there is none, what is said of a function that
+    has no proof file: a note, and a second one with the search's words."""
     lines = log.splitlines()
-    starts = [i for i, line in enumerate(lines) if re.match(r"\S+:\d+:\d+: error: ", line) and "was not admitted" not in line]
-    more = ("  ",)
+    wrong = re.compile(r"\S+:\d+:\d+: (error: |`\S+` is not admitted: )")
+    starts = [i for i, line in enumerate(lines) if wrong.match(line) and "was not admitted" not in line]
     if not starts:
         starts = [i for i, line in enumerate(lines) if re.match(r"note: \S+:\d+:\d+: ", line)]
-        more = ("  ", "note: ")
     if not starts:
         return ""
     end = starts[0] + 1
-    while end < len(lines) and lines[end].startswith(more):
+    while end < len(lines) and lines[end].startswith(("  ", "note: what antt said of a `search`")):
         end += 1
     return "\n".join(lines[starts[0]:end])
 
@@ -66,10 +66,11 @@ def self_test():
     cases = [
         (of("`omega`: the goal does not follow from what it read. All of that holds, and the goal fails, at `n` = 65."), None),
         (of("expected type `L n k ≡ false`, but this has type `L n k ≡ L n k`"), None),
-        ("note: src/a.rt:1:1: it is not proved that what it ensures holds (`returns`)\nnote: said: `search`: no proof of `5 ≡ 6`\n", None),
+        ("note: a.rt:1:1: it is not proved that it holds (`returns`)\nnote: what antt said of a `search`: `search`: no proof of `5 ≡ 6`\n", None),
         (of("`rw`: no occurrence of the path's left endpoint in the goal") + of("expected type `0 ≡ 1`, but this has type `0 ≡ 0`"), "form alone"),
         (of("expected type `a`\n  but this has type `b`\n  what the two types compute to is not shown, because"), "form alone"),
         (of("`tie` has no `Need-returns-7`"), "form alone"),
+        ("p.antt:1:1: `r` is not admitted: unsolved\n" + of("expected type `0 ≡ 1`, but this has type `0 ≡ 0`"), "form alone"),
         (of("something else"), "a wording that is not known"),
         ("logic=proved\n", "no error"),
     ]

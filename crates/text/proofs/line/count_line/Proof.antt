@@ -43,7 +43,7 @@ add-t17 : tie.Need-add-t17
 add-t17 c = omega (arith, cut-known _ (c .before .before .before .before .before .before .before .before .before .before .before .before .before .cut-line .ensures) (c .before .before .before .before .before .before .before .before .before .before .before .equals .given .1))
 
 returns-6 : tie.Need-returns-6
-returns-6 c = sym (keyed-good _ _ _ (know (c .before .before .before .before .before .before .before .before .before .before .before .before .before .cut-line .ensures) (c .before .before .before .before .before .before .before .before .before .before .before .equals .given .1)) (know (c .before .before .before .before .before .before .before .before .same .ensures) (not-false _ (c .before .before .before .before .before .before .before .if1 .left))) (value-within _ _ _ _ (know (c .before .before .before .before .before .read-number .ensures) (c .before .before .before .n .given .1)) (c .before .if2 .left) (c .if3 .left)))
+returns-6 c = sym (keyed-good _ _ _ (know (c .before .before .before .before .before .before .before .before .before .before .before .before .before .cut-line .ensures) (c .before .before .before .before .before .before .before .before .before .before .before .equals .given .1)) (know (c .before .before .before .before .before .before .before .before .same .ensures) (not-false _ (c .before .before .before .before .before .before .before .if1 .left))) (value-within _ (c .before .before .before .before .before .before .before .before .before .before .before .before .before .before .before .before .args .high) _ _ (know (c .before .before .before .before .before .read-number .ensures) (c .before .before .before .n .given .1)) (c .before .if2 .left) (c .if3 .left)))
 
 pub count-line-spec : {M : Type 1} → statement M
 count-line-spec =
