@@ -23,7 +23,7 @@ FORM = [
 # Fact: the log shows a number, a value or a statement that fails.
 FACT = [
     r"`omega`: the goal does not follow .*the goal fails(, at|\.)",  # arithmetic: numbers at which it fails, or false as it stands
-    r"computed as far as they go, the two (types|indices) (are|differ|first differ)",  # one thing is asked for, and another is there
+    r"computed as far as they go, the two (types|sides|indices) (are|differ|first differ)",  # one thing is asked for, and another is there
     r"as printed, the two types differ only where",
     r"expected type `[^…]*`,?\s+but this has type `[^…]*`",  # the same, where both are shown whole
     r"`[^…]*` ≟ `[^…]*`: does not hold",
