@@ -13,8 +13,8 @@ use Rattle.tables.proofs.Numbers.{number-listed, number-once}
 use Rattle.normal_form.specs.declared.sign.Sign.the-variants.{Plain, Negated}
 use Rattle.judging.specs.declared.verdict.Verdict.{Verdict}
 use Rattle.judging.specs.declared.verdict.Verdict.the-variants.{Holds, Breaks, Kept, Broken, Open}
-use Rattle.sheet_check.specs.declared.finding.Finding.{Finding}
-use Rattle.sheet_check.specs.declared.finding.Finding.the-variants.{Root, Failed, Starved, Pending, Passes}
+use Rattle.checking.specs.declared.finding.Finding.{Finding}
+use Rattle.checking.specs.declared.finding.Finding.the-variants.{Root, Failed, Starved, Pending, Passes}
 use Rattle.answer_code.specs.Code.{findingCode, refusalCode, signOf, verdictCode}
 
 number-below : (reason : Reason) → number reason < 256

@@ -17,10 +17,10 @@ use Rattle.judging.specs.declared.verdict.Answer.{Answer}
 use Rattle.judging.specs.declared.verdict.Answer.the-variants.{Judged, Refused as AnswerRefused}
 use Rattle.sheet_maker.specs.declared.MakerAnswer.{MakerAnswer}
 use Rattle.sheet_maker.specs.declared.MakerAnswer.the-variants.{Written, None, Refused as MakerRefused}
-use Rattle.sheet_check.specs.declared.finding.Finding.{Finding}
-use Rattle.sheet_check.specs.declared.finding.Finding.the-variants.{Root, Failed, Starved, Pending, Passes}
-use Rattle.sheet_check.specs.declared.finding.CheckAnswer.{CheckAnswer}
-use Rattle.sheet_check.specs.declared.finding.CheckAnswer.the-variants.{Checked, Refused as CheckRefused}
+use Rattle.checking.specs.declared.finding.Finding.{Finding}
+use Rattle.checking.specs.declared.finding.Finding.the-variants.{Root, Failed, Starved, Pending, Passes}
+use Rattle.checking.specs.declared.finding.CheckAnswer.{CheckAnswer}
+use Rattle.checking.specs.declared.finding.CheckAnswer.the-variants.{Checked, Refused as CheckRefused}
 
 -- 2 ^ 63, the refusal's number in 01's list, its file in the second byte, its line above
 abbrev pub refusalCode : Refusal → ℕ

@@ -1,11 +1,11 @@
 // Answers as one number, for callers in C and Rust.
 ghost use mathlib.Core.Path.{_≡_};
 ghost use Rattle.answer_code.specs.Code.{bytesCode, checkCode, findingCode, judgeCode, makerCode, outcomeCode, refusalCode, signOf, verdictCode};
+use checking::finding::CheckAnswer;
+use checking::finding::Finding;
 use judging::verdict::Answer;
 use judging::verdict::Verdict;
 use normal_form::sign::Sign;
-use sheet_check::finding::CheckAnswer;
-use sheet_check::finding::Finding;
 use sheet_maker::MakerAnswer;
 use tables::refusal::Outcome;
 use tables::refusal::Refusal;

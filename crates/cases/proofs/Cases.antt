@@ -4,7 +4,7 @@ use mathlib.Core.List.{List, _∷_}
 use Rattle.tables.specs.Bytes.{sameBytes}
 use Rattle.tables.specs.Kind.{kinds, kindAt, dualOf}
 use Rattle.tables.specs.Place.{tabulateFrom}
-use Rattle.tables.specs.Bit.{bitAt, wordFrom, lineOf}
+use Rattle.tables.specs.Bit.{bitAt, wordFrom, laneOf}
 use Rattle.text.specs.Search.{further, firstWhere}
 use Rattle.text.specs.Number.{digitsFrom, digitsOf, numberOf}
 use Rattle.text.specs.Line.{cutOf, isNumbered, keyedLine}
@@ -26,7 +26,7 @@ use Rattle.writing.specs.Normal.{writtenNormal}
 use Rattle.writing.specs.Refusal.{refusalText}
 use Rattle.judge_text.specs.Text.{verdictText}
 use Rattle.sheet_file.specs.Sheet.{parseSheet}
-use Rattle.sheet_check.proofs.ByRun.{run-from, ran, survey-from, surveyed, computedFinding}
+use Rattle.checking.proofs.ByReport.{report-from, reported, survey-from, surveyed, computedFinding}
 use Rattle.cases.specs.Case.{Case, Each, Each.none, Each.first, Says}
 use Rattle.cases.specs.Table.{cases}
 use Rattle.cases.proofs.Computed.{Computed, all-say}
@@ -37,7 +37,7 @@ a also b = first a b
 
 -- row by row; of a verdict: the signals agree, the ending is what the service needs, and the bits give the verdict
 computed : Each Computed cases
-unfolding parseRule keyedLine cutOf firstWhere further sameBytes countForm numberOf digitsOf digitsFrom bodyLines isNumbered rowValue rowForm formOf kindNamed kinds kindAt dualOf tabulateFrom writtenRule writtenBody decimal decimalIn markedDown reach listing normalListing normalForm writtenNormal refusalText parseTake areDigits digitsForm endingValue bitAt wordFrom lineOf position approximant bitsWithin bitsOf verdictText parseSheet run-from ran survey-from surveyed computedFinding
+unfolding parseRule keyedLine cutOf firstWhere further sameBytes countForm numberOf digitsOf digitsFrom bodyLines isNumbered rowValue rowForm formOf kindNamed kinds kindAt dualOf tabulateFrom writtenRule writtenBody decimal decimalIn markedDown reach listing normalListing normalForm writtenNormal refusalText parseTake areDigits digitsForm endingValue bitAt wordFrom laneOf position approximant bitsWithin bitsOf verdictText parseSheet report-from reported survey-from surveyed computedFinding
 computed =
     refl
     also (λ buf. (refl, refl))

@@ -28,7 +28,7 @@ use Rattle.writing.specs.Refusal.{refusalText}
 use Rattle.judge_text.specs.Text.{verdictText}
 use Rattle.judge_text.specs.Answer.{IsText}
 use Rattle.judge_text.proofs.Answers.{judged-text}
-use Rattle.sheet_check.specs.declared.finding.Finding.{Finding}
+use Rattle.checking.specs.declared.finding.Finding.{Finding}
 use Rattle.cases.proofs.ComputedSheets.{ChecksTo, check-computed, MakesTo, make-computed}
 use Rattle.cases.specs.Case.{File, fileBytes, Case, Answered, Says, Each, Each.none, Each.first}
 use Rattle.cases.specs.Case.Case.{normal-form, bound, looped, opened, prints, makes, checks}

@@ -49,12 +49,12 @@ use Rattle.judging.specs.Refusals.{pairOutcome}
 use Rattle.judging.proofs.ByBits.{computedVerdict, verdict-computed}
 use Rattle.sheet_maker.specs.Made.{SatisfiedIn, Satisfied, IsMade}
 use Rattle.sheet_maker.specs.Answer.{answerOf, Answers.sheet, Makes}
-use Rattle.sheet_check.specs.declared.finding.Finding.{Finding}
-use Rattle.sheet_check.specs.declared.finding.CheckAnswer.the-variants.{Checked}
-use Rattle.sheet_check.specs.Finding.{FindingOf}
-use Rattle.sheet_check.specs.Answer.{tablesOutcome, checkOutcome, CheckAnswers}
-use Rattle.sheet_check.proofs.Answers.{found-answer}
-use Rattle.sheet_check.proofs.ByRun.{computedFinding, finding-computed}
+use Rattle.checking.specs.declared.finding.Finding.{Finding}
+use Rattle.checking.specs.declared.finding.CheckAnswer.the-variants.{Checked}
+use Rattle.checking.specs.Finding.{FindingOf}
+use Rattle.checking.specs.Answer.{tablesOutcome, checkOutcome, CheckAnswers}
+use Rattle.checking.proofs.Answers.{found-answer}
+use Rattle.checking.proofs.ByReport.{computedFinding, finding-computed}
 
 -- ---- a check
 

@@ -24,9 +24,9 @@ use Rattle.judging.specs.declared.verdict.Answer.the-variants.{Judged}
 use Rattle.judging.specs.Refusals.{loopedOutcome, openOutcome, Answers}
 use Rattle.judge_text.specs.Answer.{IsText}
 use Rattle.sheet_maker.specs.Answer.{answerOf, Makes}
-use Rattle.sheet_check.specs.declared.finding.Finding.{Finding}
-use Rattle.sheet_check.specs.declared.finding.CheckAnswer.the-variants.{Checked}
-use Rattle.sheet_check.specs.Answer.{checkOutcome, CheckAnswers}
+use Rattle.checking.specs.declared.finding.Finding.{Finding}
+use Rattle.checking.specs.declared.finding.CheckAnswer.the-variants.{Checked}
+use Rattle.checking.specs.Answer.{checkOutcome, CheckAnswers}
 
 -- a file, by its lines
 abbrev pub File : Type 0

@@ -4,7 +4,7 @@
 use mathlib.Core.List.{List, [], _∷_}
 use Rattle.normal_form.specs.declared.sign.Sign.the-variants.{Plain, Negated}
 use Rattle.judging.specs.declared.verdict.Verdict.the-variants.{Holds, Breaks, Kept, Broken, Open}
-use Rattle.sheet_check.specs.declared.finding.Finding.the-variants.{Failed, Starved, Passes}
+use Rattle.checking.specs.declared.finding.Finding.the-variants.{Failed, Starved, Passes}
 use Rattle.cases.specs.Case.{File, Case}
 use Rattle.cases.specs.Case.Case.{normal-form, bound, looped, opened, prints, makes, checks}
 

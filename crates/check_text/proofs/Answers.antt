@@ -17,10 +17,10 @@ use Rattle.take_file.specs.Valid.{InRange}
 use Rattle.normal_form.specs.declared.sign.Sign.the-variants.{Plain}
 use Rattle.normal_form.specs.Numbering.{normalForm}
 use Rattle.writing.specs.Refusal.{refusalText}
-use Rattle.sheet_check.specs.declared.finding.Finding.{Finding}
-use Rattle.sheet_check.specs.declared.finding.Finding.the-variants.{Root, Failed, Starved, Pending, Passes}
-use Rattle.sheet_check.specs.Finding.{FindingOf}
-use Rattle.sheet_check.proofs.Bounds.{failed-cycle}
+use Rattle.checking.specs.declared.finding.Finding.{Finding}
+use Rattle.checking.specs.declared.finding.Finding.the-variants.{Root, Failed, Starved, Pending, Passes}
+use Rattle.checking.specs.Finding.{FindingOf}
+use Rattle.checking.proofs.Bounds.{failed-cycle}
 use Rattle.check_text.specs.Text.{CycleBelow, findingText}
 use Rattle.check_text.specs.Answer.{IsCheckText}
 

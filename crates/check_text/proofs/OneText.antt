@@ -17,7 +17,7 @@ use Rattle.sheet_file.specs.Sheet.{parseSheet}
 use Rattle.writing.specs.declared.answer.Bytes.{Bytes}
 use Rattle.writing.specs.Answer.{writtenAnswer}
 use Rattle.writing.specs.Lent.{overlaid}
-use Rattle.sheet_check.specs.Answer.{sevenOutcome, nineOutcome}
+use Rattle.checking.specs.Answer.{sevenOutcome, nineOutcome}
 use Rattle.check_text.specs.Text.{findingText}
 use Rattle.check_text.specs.Answer.{IsOutcomeText, IsCheckText, Prints}
 

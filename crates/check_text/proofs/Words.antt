@@ -5,8 +5,8 @@ use mathlib.Core.List.{List}
 use Rattle.tables.specs.Bytes.{bytes, sameBytes}
 use Rattle.tables.specs.Choice.{pick}
 use Rattle.text.specs.Written.{decimal, decimalIn}
-use Rattle.sheet_check.specs.declared.finding.Finding.{Finding}
-use Rattle.sheet_check.specs.declared.finding.Finding.the-variants.{Root, Failed, Starved, Pending, Passes}
+use Rattle.checking.specs.declared.finding.Finding.{Finding}
+use Rattle.checking.specs.declared.finding.Finding.the-variants.{Root, Failed, Starved, Pending, Passes}
 use Rattle.check_text.specs.Text.{findingText, findingWord}
 
 -- a finding without its row and cycle

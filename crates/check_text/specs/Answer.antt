@@ -23,9 +23,9 @@ use Rattle.writing.specs.declared.answer.Bytes.{Bytes}
 use Rattle.writing.specs.Answer.{writtenAnswer}
 use Rattle.writing.specs.Lent.{overlaid}
 use Rattle.writing.specs.Refusal.{refusalText}
-use Rattle.sheet_check.specs.declared.finding.Finding.{Finding}
-use Rattle.sheet_check.specs.Finding.{FindingOf}
-use Rattle.sheet_check.specs.Answer.{sevenOutcome, nineOutcome}
+use Rattle.checking.specs.declared.finding.Finding.{Finding}
+use Rattle.checking.specs.Finding.{FindingOf}
+use Rattle.checking.specs.Answer.{sevenOutcome, nineOutcome}
 use Rattle.check_text.specs.Text.{findingText}
 
 -- the refusal, or the finding on the normal form

@@ -3,8 +3,8 @@ use Prim.Native.Nat.{ℕ, _<_}
 use mathlib.Core.List.{List, []}
 use Rattle.tables.specs.Bytes.{bytes}
 use Rattle.text.specs.Written.{decimal, writtenLine}
-use Rattle.sheet_check.specs.declared.finding.Finding.{Finding}
-use Rattle.sheet_check.specs.declared.finding.Finding.the-variants.{Root, Failed, Starved, Pending, Passes}
+use Rattle.checking.specs.declared.finding.Finding.{Finding}
+use Rattle.checking.specs.declared.finding.Finding.the-variants.{Root, Failed, Starved, Pending, Passes}
 
 -- "`root`; else `failed` …; else `starved` (accept stops returning) or, for an open take, `pending` …; else `passes`"
 abbrev pub findingWord : Finding → List ℕ

@@ -6,7 +6,7 @@ ghost use Rattle.tables.specs.Bytes.{bytes};
 ghost use Rattle.text.specs.Written.{writtenLine};
 ghost use Rattle.writing.specs.Lent.{Wrote};
 ghost use Rattle.check_text.specs.Text.{CycleBelow, findingPlace, findingText, findingWord};
-use sheet_check::finding::Finding;
+use checking::finding::Finding;
 use writing::line::put_number_line;
 use writing::line::put_text_line;
 

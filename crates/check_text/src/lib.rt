@@ -38,7 +38,7 @@ fn put_tables(buf: &mut [u8], formula: Formula, trace: Trace, activation: Activa
     }
     let form = normal_form::normal_form(formula, Sign::Plain);
     if (activation.rows == form.rows) & (activation.cycles == trace.cycles) {
-        let found = sheet_check::find::find(form, trace, activation);
+        let found = checking::find::find(form, trace, activation);
         return finding::put_finding(buf, found);
     }
     let refusal = Refusal {

@@ -10,7 +10,7 @@ use Rattle.tables.specs.declared.row.Formula.{Formula}
 use Rattle.tables.specs.declared.row.NormalForm.{NormalForm}
 use Rattle.tables.specs.declared.trace.Ending.{Ending}
 use Rattle.tables.specs.declared.trace.Ending.the-variants.{Open as NoLoop, Loop}
-use Rattle.tables.specs.declared.trace.Line.{Line}
+use Rattle.tables.specs.declared.trace.Lane.{Lane}
 use Rattle.tables.specs.declared.trace.Trace.{Trace}
 use Rattle.rule_file.specs.Valid.{InRange as FormulaInRange}
 use Rattle.take_file.specs.Valid.{InRange as TraceInRange}
@@ -20,15 +20,15 @@ use Rattle.normal_form.specs.declared.sign.Sign.the-variants.{Plain, Negated}
 use Rattle.normal_form.specs.Form.{InNormalForm}
 use Rattle.normal_form.specs.Numbering.{normalForm}
 use Rattle.normal_form.proofs.Demand.{satisfied-alike}
-use Rattle.truth.specs.Truth.{lineIn, TrueIn, TrueAt, Filled}
-use Rattle.row_lines.proofs.Passes.{shown-bit}
+use Rattle.truth.specs.Truth.{laneIn, TrueIn, TrueAt, Filled}
+use Rattle.row_lanes.proofs.Passes.{shown-bit}
 use Rattle.judging.specs.declared.verdict.Verdict.the-variants.{Holds, Breaks, Kept, Broken, Open}
 use Rattle.judging.specs.Verdict.{VerdictOf}
 use Rattle.judging.proofs.Verdicts.{kept-not-broken, holds-verdict, breaks-verdict, kept-verdict, broken-verdict, open-verdict}
 
--- the root's line at the first cycle
-pub root-bit : (g : NormalForm) (t : Trace) (lines : List Line) → Filled g t lines → InNormalForm g → TraceInRange t → {b : Bool} → b ≡ bitAt (lineIn lines (g .rows - 1)) 0 → TrueAt g t (g .rows) 0 ↔ (b ≡ true)
-root-bit g t lines filled ok range e =
+-- the root's lane at the first cycle
+pub root-bit : (g : NormalForm) (t : Trace) (lanes : List Lane) → Filled g t lanes → InNormalForm g → TraceInRange t → {b : Bool} → b ≡ bitAt (laneIn lanes (g .rows - 1)) 0 → TrueAt g t (g .rows) 0 ↔ (b ≡ true)
+root-bit g t lanes filled ok range e =
     let told = filled (g .rows - 1) (omega (arith, ok .some-rows)) in
     let last : suc (g .rows - 1) ≡ g .rows = omega (arith, ok .some-rows) in
     let bit = e ∙ shown-bit (t .cycles) _ (told .0) (range .most-cycles) (told .1) 0 (range .some-cycles) in

@@ -31,9 +31,9 @@ fn root_true(form: NormalForm, trace: Trace) -> bool
     ensures { λ r. ⌜ TrueAt form trace (form .rows) 0 ↔ (r ≡ true) ⌝ }
 {
     let truth = truth::fill::fill(form, trace);
-    let lines = truth.lines;
+    let lanes = truth.lanes;
     let root = form.rows as usize - 1;
-    lines::line::bit(lines[root], 0)
+    lanes::lane::bit(lanes[root], 0)
 }
 
 // The verdict on tables that have passed their checks. An open take is broken where the negated formula is strongly true: that the

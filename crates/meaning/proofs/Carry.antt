@@ -22,31 +22,31 @@ idempotent h mono b = by (h false) refl (h true) refl b
 module _ (N b : ℕ) (f : ℕ → Bool → Bool) (mono : (i : ℕ) (x y : Bool) → (On x → On y) → On (f i x) → On (f i y))
     (same : (i : ℕ) → b ≤ i → (x : Bool) → f (i + N) x ≡ f i x) (y : ℕ → Bool) (steps : (i : ℕ) → y (suc i) ≡ f i (y i)) where
   -- d steps from cycle i on
-  run : ℕ → ℕ → Bool → Bool
-  run zero i x = x
-  run (suc d) i x = run d (suc i) (f i x)
+  iter : ℕ → ℕ → Bool → Bool
+  iter zero i x = x
+  iter (suc d) i x = iter d (suc i) (f i x)
 
-  run-mono : (d i : ℕ) (x z : Bool) → (On x → On z) → On (run d i x) → On (run d i z)
-  unfolding run
-  run-mono zero i x z h e = h e
-  run-mono (suc d) i x z h e = run-mono d (suc i) (f i x) (f i z) (mono i x z h) e
+  iter-mono : (d i : ℕ) (x z : Bool) → (On x → On z) → On (iter d i x) → On (iter d i z)
+  unfolding iter
+  iter-mono zero i x z h e = h e
+  iter-mono (suc d) i x z h e = iter-mono d (suc i) (f i x) (f i z) (mono i x z h) e
 
-  run-shift : (d i : ℕ) → b ≤ i → (x : Bool) → run d (i + N) x ≡ run d i x
-  unfolding run
-  run-shift zero i h x = refl
-  run-shift (suc d) i h x = let e : suc (i + N) ≡ suc i + N = omega arith in ap₂ (run d) e (same i h x) ∙ run-shift d (suc i) (omega arith) (f i x)
+  iter-shift : (d i : ℕ) → b ≤ i → (x : Bool) → iter d (i + N) x ≡ iter d i x
+  unfolding iter
+  iter-shift zero i h x = refl
+  iter-shift (suc d) i h x = let e : suc (i + N) ≡ suc i + N = omega arith in ap₂ (iter d) e (same i h x) ∙ iter-shift d (suc i) (omega arith) (f i x)
 
-  run-is : (d i : ℕ) → y (i + d) ≡ run d i (y i)
-  unfolding run
-  run-is zero i = ap y (add-zero i)
-  run-is (suc d) i = let e : i + suc d ≡ suc i + d = omega arith in ap y e ∙ run-is d (suc i) ∙ ap (run d (suc i)) (steps i)
+  iter-is : (d i : ℕ) → y (i + d) ≡ iter d i (y i)
+  unfolding iter
+  iter-is zero i = ap y (add-zero i)
+  iter-is (suc d) i = let e : i + suc d ≡ suc i + d = omega arith in ap y e ∙ iter-is d (suc i) ∙ ap (iter d (suc i)) (steps i)
 
   pub carried : Periodic N (b + N) y
   carried = le-ind (λ i. y (i + N) ≡ y i) start step
     where
       start : y (b + N + N) ≡ y (b + N)
-      start = run-is N (b + N) ∙ run-shift N b (omega arith) (y (b + N)) ∙ ap (run N b) (run-is N b)
-          ∙ idempotent (run N b) (run-mono N b false true (λ e. refl)) (y b) ∙ sym (run-is N b)
+      start = iter-is N (b + N) ∙ iter-shift N b (omega arith) (y (b + N)) ∙ ap (iter N b) (iter-is N b)
+          ∙ idempotent (iter N b) (iter-mono N b false true (λ e. refl)) (y b) ∙ sym (iter-is N b)
 
       step : (i : ℕ) → b + N ≤ i → y (i + N) ≡ y i → y (suc i + N) ≡ y (suc i)
       step i h e = let q : suc i + N ≡ suc (i + N) = omega arith in ap y q ∙ steps (i + N) ∙ same i (omega arith) (y (i + N)) ∙ ap (f i) e ∙ sym (steps i)

@@ -15,10 +15,10 @@ InfiniteTrace = ℕ → ℕ → Bool
 
 -- the digit of a recording at cycle c, signal s
 abbrev pub signalAt : Trace → ℕ → ℕ → Bool
-signalAt t c s = bitAt (getD (t .lines) (s - 1) (record { words = [] })) c
+signalAt t c s = bitAt (getD (t .lanes) (s - 1) (record { words = [] })) c
 
 -- "A looped take runs through its cycles, then from the loop's cycle to the end without end": the recording's cycle in which the
--- run of n cycles with its loop at l is at cycle i
+-- lasso of n cycles with its loop at l is at cycle i
 unfoldable pub position : ℕ → ℕ → ℕ → ℕ
 position n l zero = zero
 position n l (suc i) = pick (ltb (suc (position n l i)) n) (suc (position n l i)) l

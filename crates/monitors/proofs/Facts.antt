@@ -18,7 +18,7 @@ use Rattle.meaning.proofs.Readings.{On}
 use Rattle.meaning.proofs.Rows.{Each, each-map, each-signal, Ordered, Positive}
 use Rattle.meaning.proofs.Truth.{true-means, strongly-true-means}
 use Rattle.meaning.proofs.Periodic.{position-first}
-use Rattle.monitors.specs.Run.{Activators, output}
+use Rattle.monitors.specs.Along.{Activators, output}
 use Rattle.monitors.specs.Sheet.{activatorAt, repeated, loopedOutput, openOutput, IsRow, PassesLooped, PassesOpen}
 use Rattle.monitors.proofs.Locality.{output-local}
 use Rattle.monitors.proofs.Sheets.{lassoOutput, PassesLasso, lasso-passing, lasso-passing-active, lasso-truth-passes, PassesPrefix, prefix-passing, prefix-passing-active, prefix-truth-passes}

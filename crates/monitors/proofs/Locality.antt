@@ -11,7 +11,7 @@ use Rattle.meaning.specs.Satisfaction.{Table}
 use Rattle.meaning.proofs.Rows.{Each, each-map, EachSignal}
 use Rattle.monitors.specs.declared.State.{State}
 use Rattle.monitors.specs.Monitor.{signalMonitor, unaryMonitor, binaryMonitor, monitor}
-use Rattle.monitors.specs.Run.{Activators, pendingBefore, output}
+use Rattle.monitors.specs.Along.{Activators, pendingBefore, output}
 
 monitor-local :
     (act act′ signals signals′ : ℕ → Bool) (r : Row) (s : State) → Each (λ a. act a ≡ act′ a) r → EachSignal (λ n. signals n ≡ signals′ n) r

@@ -18,7 +18,7 @@ use Rattle.meaning.proofs.Pattern.{Pattern, Pattern.now, Pattern.next, Pattern.
 use Rattle.meaning.proofs.PatternBits.{keepBit, goalBit, keepBits, goalBits, patternBit, operandBits, rowBit}
 use Rattle.meaning.proofs.Evaluation.{Evaluation, operands-periodic}
 use Rattle.monitors.specs.declared.Output.{Output}
-use Rattle.monitors.specs.Run.{pendingBefore, output}
+use Rattle.monitors.specs.Along.{pendingBefore, output}
 use Rattle.monitors.proofs.ByPattern.{doneBit, needBit, patternMonitor}
 use Rattle.monitors.proofs.Soundness.{patternOutput, output-by-pattern, handed-on}
 

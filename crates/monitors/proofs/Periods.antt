@@ -22,7 +22,7 @@ use Rattle.meaning.proofs.Carry.{carried}
 use Rattle.meaning.proofs.Lasso.{lasso}
 use Rattle.monitors.specs.declared.Output.{Output}
 use Rattle.monitors.specs.Monitor.{monitor}
-use Rattle.monitors.specs.Run.{Activators, pendingBefore, output}
+use Rattle.monitors.specs.Along.{Activators, pendingBefore, output}
 use Rattle.monitors.proofs.Sheets.{lassoOutput}
 
 -- ---- what repeats from cycle b on after N cycles

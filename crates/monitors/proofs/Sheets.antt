@@ -24,9 +24,9 @@ use Rattle.meaning.proofs.Lasso.{twoRounds, lasso, ComputesLasso, lasso-evaluat
 use Rattle.meaning.proofs.StrongTruth.{cyclesBelow, Inside, strong-interprets}
 use Rattle.meaning.proofs.Prefix.{prefix, toEnd, prefix-same, prefix-evaluation, prefix-truth, prefix-readings}
 use Rattle.monitors.specs.declared.Output.{Output}
-use Rattle.monitors.specs.Run.{Activators, pendingBefore, output}
+use Rattle.monitors.specs.Along.{Activators, pendingBefore, output}
 use Rattle.monitors.proofs.ByPattern.{patternMonitor}
-use Rattle.monitors.proofs.Soundness.{output-by-pattern, Unfailing, run-active-true, run-active-row-true}
+use Rattle.monitors.proofs.Soundness.{output-by-pattern, Unfailing, along-active-true, along-active-row-true}
 use Rattle.monitors.proofs.Made.{bits-never-fail, bits-accept, bits-not-pending}
 use Rattle.monitors.proofs.Locality.{output-local}
 
@@ -54,7 +54,7 @@ module _ (n l : ℕ) (l<n : l < n) (recording : ℕ → ℕ → Bool) (t : Table
       -- a passing sheet marks only what is true
       pub lasso-passing-active : (R : Reading) (k : ℕ) → k < m → (i : ℕ) → On (sheet (position n l i) k) → RowTrue R (lasso n l l<n recording) t k i
       lasso-passing-active R k h i on = lasso-readings n l l<n recording t m ordered classical R k h i .0
-          (run-active-row-true t m (lasso n l l<n recording) (λ i. sheet (position n l i)) ordered positive unfailing classical classical-full k h i on)
+          (along-active-row-true t m (lasso n l l<n recording) (λ i. sheet (position n l i)) ordered positive unfailing classical classical-full k h i on)
 
       pub lasso-passing : (R : Reading) → RowTrue R (lasso n l l<n recording) t root 0
       unfolding position
@@ -166,7 +166,7 @@ module _ (n : ℕ) (w : InfiniteTrace) (t : Table) where
       -- a passing sheet marks only what is strongly true
       pub prefix-passing-active : (R : Reading) (k : ℕ) → k < m → (i : ℕ) → i < n → On (sheet i k) → RowStronglyTrue R n w t k i
       prefix-passing-active R k h i l on = prefix-readings n w t m ordered positive classical R k h i l .0
-          (run-active-true t m (prefix n w) (cut sheet) ordered positive cut-unfailing classical classical-full (cyclesBelow n) (λ k i h. and-left (ltb i n) _)
+          (along-active-true t m (prefix n w) (cut sheet) ordered positive cut-unfailing classical classical-full (cyclesBelow n) (λ k i h. and-left (ltb i n) _)
           (λ k. Inside n (RowStronglyTrue classical n w t k)) (strong-interprets classical n w (prefix n w) t m ordered positive (λ i l. same-signals sheet i l))
           k h i (sym (same-activators sheet i l k h) ∙ on) .1)
 

@@ -1,6 +1,6 @@
 -- Soundness of the monitors: along an infinite trace on which no monitor ever fails and no accept stays 0 from some cycle on, a row
 -- is true wherever it is active, in any full reading (active-true). The pendings may be any that are handed on from cycle to cycle;
--- those of Run are (handed-on), and there are no others (handed-on-unique). Assumes nothing.
+-- those of Along are (handed-on), and there are no others (handed-on-unique). Assumes nothing.
 use Prim.Native.Nat.{ℕ, zero, suc, _≤_, _<_}
 use mathlib.Core.Path.{_≡_, refl, subst, sym, ap, _∙_}
 use mathlib.Core.Logic.{_⊎_, inl, inr}
@@ -19,7 +19,7 @@ use Rattle.meaning.proofs.MeaningByPattern.{holds-map, interprets-pattern}
 use Rattle.meaning.proofs.PatternBits.{keepBit, goalBit, connectiveBit, operandBits, keep-iff, goal-iff, connective-iff, signal-iff}
 use Rattle.monitors.specs.declared.Output.{Output}
 use Rattle.monitors.specs.Monitor.{monitor}
-use Rattle.monitors.specs.Run.{Activators, pendingBefore}
+use Rattle.monitors.specs.Along.{Activators, pendingBefore}
 use Rattle.monitors.proofs.ByPattern.{doneBit, needBit, patternMonitor, monitor-by-pattern}
 
 -- ---- Bools
@@ -171,7 +171,7 @@ module _ (t : Table) (m : ℕ) (w : InfiniteTrace) (act pending : Activators) wh
   active-row-true ordered positive handed passes R full =
       active-true ordered positive handed passes R full everyCycle (λ k i h on. refl) (RowTrue R w t) (truth-interprets R w t m ordered)
 
--- ---- the pendings of Run
+-- ---- the pendings of Along
 
 module _ (t : Table) (m : ℕ) (w : InfiniteTrace) (act : Activators) where
   pub handed-on : HandedOn t m w act (pendingBefore t w act)
@@ -186,10 +186,10 @@ module _ (t : Table) (m : ℕ) (w : InfiniteTrace) (act : Activators) where
       handed .next k h i ∙ ap (λ y. monitor (act i) (w i) (t k) (record { active = act i k; pending = y }) .pending) (handed-on-unique pending handed k h i)
 
   module _ (ordered : Ordered m t) (positive : (k : ℕ) → k < m → Positive (t k)) (passes : Unfailing t m w act (pendingBefore t w act)) (R : Reading) (full : Full R) where
-    pub run-active-true :
+    pub along-active-true :
         (live : ℕ → Bool) → ((k i : ℕ) → k < m → On (act i k) → On (live i)) → (v : ℕ → ℕ → Type 0) → Interprets R live w t m v → (k : ℕ) → k < m
         → (i : ℕ) → On (act i k) → v k i
-    run-active-true = active-true t m w act (pendingBefore t w act) ordered positive handed-on passes R full
+    along-active-true = active-true t m w act (pendingBefore t w act) ordered positive handed-on passes R full
 
-    pub run-active-row-true : (k : ℕ) → k < m → (i : ℕ) → On (act i k) → RowTrue R w t k i
-    run-active-row-true = active-row-true t m w act (pendingBefore t w act) ordered positive handed-on passes R full
+    pub along-active-row-true : (k : ℕ) → k < m → (i : ℕ) → On (act i k) → RowTrue R w t k i
+    along-active-row-true = active-row-true t m w act (pendingBefore t w act) ordered positive handed-on passes R full

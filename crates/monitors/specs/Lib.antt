@@ -1,3 +1,3 @@
 pub mod Monitor
-pub mod Run
+pub mod Along
 pub mod Sheet

@@ -14,11 +14,11 @@ use Rattle.meaning.specs.Reading.{classical, Some}
 use Rattle.meaning.specs.Trace.{signalAt, position, unrolled}
 use Rattle.meaning.specs.Satisfaction.{tableOf}
 use Rattle.monitors.specs.declared.Output.{Output}
-use Rattle.monitors.specs.Run.{Activators, output}
+use Rattle.monitors.specs.Along.{Activators, output}
 
 -- the sheet's digit for row k at cycle c
 abbrev pub activatorAt : Activation → ℕ → ℕ → Bool
-activatorAt a c k = bitAt (getD (a .lines) (k - 1) (record { words = [] })) c
+activatorAt a c k = bitAt (getD (a .lanes) (k - 1) (record { words = [] })) c
 
 -- "A sheet for a looped take is repeated with it."
 abbrev pub repeated : Activation → Trace → ℕ → Activators

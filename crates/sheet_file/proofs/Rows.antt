@@ -1,4 +1,4 @@
--- The lines of the rows: word by word, each digit by digit. Assumes nothing.
+-- The lanes of the rows: word by word, each digit by digit. Assumes nothing.
 use mathlib.Core.Path.{_≡_, refl, sym, _∙_}
 use mathlib.Core.Bool.{Bool, false}
 use mathlib.Core.List.{List, [], _∷_}
@@ -10,12 +10,12 @@ use lib.Pow.{pow-mono}
 use lib.ListN.{length, getD, replicate, length-map, List·getD-eq-default, List·getD-map}
 use Rattle.tables.specs.Choice.{pick}
 use Rattle.tables.specs.Place.{tabulateFrom, placed}
-use Rattle.tables.specs.Bit.{wordFrom, lineOf}
+use Rattle.tables.specs.Bit.{wordFrom, laneOf}
 use Rattle.tables.proofs.Places.{tabulate-ext, replicate-tabulate}
 use Rattle.tables.proofs.Bits.{digit}
-use Rattle.tables.proofs.Marks.{line-none}
+use Rattle.tables.proofs.Marks.{lane-none}
 use Rattle.text.specs.Digits.{digitsIn}
-use Rattle.sheet_file.specs.Sheet.{rowLine}
+use Rattle.sheet_file.specs.Sheet.{rowLane}
 
 -- ---- a word, from its last digit down: it has all but the first `left`
 pub record WordAt (f : ℕ → Bool) (from count left word : ℕ) : Type 0 where
@@ -84,12 +84,12 @@ module _ (value : List ℕ) where
       let e : length value - k + (64 - (length value - k)) ≡ 64 = omega arith in
       rw e at (word-short (length value - k) (64 - (length value - k)) k (λ c. getD (digitsIn value) c false) (λ i m. behind i (omega arith)))
 
--- the four words are the line
-pub row-line : (f : ℕ → Bool) {a b c d : ℕ} → a ≡ wordFrom 64 0 f → b ≡ wordFrom 64 64 f → c ≡ wordFrom 64 128 f → d ≡ wordFrom 64 192 f
-    → record { words = a ∷ b ∷ c ∷ d ∷ [] } ≡ lineOf f
-unfolding lineOf tabulateFrom
-row-line f p q r s = rw (p, q, r, s)
+-- the four words are the lane
+pub row-lane : (f : ℕ → Bool) {a b c d : ℕ} → a ≡ wordFrom 64 0 f → b ≡ wordFrom 64 64 f → c ≡ wordFrom 64 128 f → d ≡ wordFrom 64 192 f
+    → record { words = a ∷ b ∷ c ∷ d ∷ [] } ≡ laneOf f
+unfolding laneOf tabulateFrom
+row-lane f p q r s = rw (p, q, r, s)
 
--- ---- the lines that the code begins with are those of no row
-pub rows-none : placed 128 rowLine [] [] ≡ replicate 128 (record { words = replicate 4 0 })
-rows-none = tabulate-ext 128 (λ i. lineOf (λ c. false)) (λ i. record { words = replicate 4 0 }) (λ i h. line-none) ∙ sym (replicate-tabulate 128 0 (record { words = replicate 4 0 }))
+-- ---- the lanes that the code begins with are those of no row
+pub rows-none : placed 128 rowLane [] [] ≡ replicate 128 (record { words = replicate 4 0 })
+rows-none = tabulate-ext 128 (λ i. laneOf (λ c. false)) (λ i. record { words = replicate 4 0 }) (λ i h. lane-none) ∙ sym (replicate-tabulate 128 0 (record { words = replicate 4 0 }))

@@ -17,9 +17,9 @@ use Rattle.tables.specs.declared.refusal.Refusal.{Refusal}
 use Rattle.tables.specs.declared.refusal.Outcome.{Outcome}
 use Rattle.tables.specs.declared.refusal.Outcome.the-variants.{Accepted, Refused}
 use Rattle.tables.specs.declared.trace.Activation.{Activation}
-use Rattle.tables.specs.declared.trace.Line.{Line}
+use Rattle.tables.specs.declared.trace.Lane.{Lane}
 use Rattle.tables.proofs.Places.{length-tabulate, tabulate-ext, tabulate-getD, take-tabulate, map-tabulate}
-use Rattle.tables.proofs.Bits.{bit-of-line}
+use Rattle.tables.proofs.Bits.{bit-of-lane}
 use Rattle.tables.proofs.Choices.{know}
 use Rattle.text.specs.Line.{isKey, keyedLine}
 use Rattle.text.specs.Count.{countForm}
@@ -34,7 +34,7 @@ use Rattle.text.proofs.Bodies.{body-written, body-read}
 use Rattle.text.proofs.Answered.{accepted-table}
 use Rattle.text.proofs.RefusedLines.{RefusedBy, map-by, test-by, count-by, body-by, refused-line, outcome-line}
 use Rattle.text.proofs.Headers.{map-accepted, test-accepted, outcome-accepted, count-then, count-in, count-below, count-above, count-range}
-use Rattle.sheet_file.specs.Sheet.{rowLine, activationOf, parseSheet, sheetAnswer}
+use Rattle.sheet_file.specs.Sheet.{rowLane, activationOf, parseSheet, sheetAnswer}
 use Rattle.sheet_file.specs.declared.sheet.SheetAnswer.{SheetAnswer}
 use Rattle.sheet_file.specs.Written.{rowsOf, writtenSheet}
 use Rattle.sheet_file.specs.Valid.{InRange, Valid}
@@ -57,18 +57,18 @@ by-lines file = refl
 
 -- ---- the rows of a table that was read
 
--- the digits of a row, out of its line
-row-of : (cycles : ℕ) (r : List Bool) → cycles ≤ 256 → length r ≡ cycles → tabulate cycles (bitAt (rowLine r)) ≡ r
+-- the digits of a row, out of its lane
+row-of : (cycles : ℕ) (r : List Bool) → cycles ≤ 256 → length r ≡ cycles → tabulate cycles (bitAt (rowLane r)) ≡ r
 row-of cycles r h e =
-    tabulate-ext cycles (bitAt (rowLine r)) (λ c. getD r c false) (λ c l. bit-of-line (λ c. getD r c false) c (omega arith)) ∙ tabulate-getD r cycles false e
+    tabulate-ext cycles (bitAt (rowLane r)) (λ c. getD r c false) (λ c l. bit-of-lane (λ c. getD r c false) c (omega arith)) ∙ tabulate-getD r cycles false e
 
 rows-of : (rows cycles : ℕ) (rs : List (List Bool)) → rows ≤ 128 → cycles ≤ 256 → length rs ≡ rows
     → ((k : ℕ) → k < length rs → length (getD rs k []) ≡ cycles) → rowsOf (activationOf rows cycles rs) ≡ rs
 rows-of rows cycles rs h l e each =
     let m : min cycles 256 ≡ cycles = omega arith in
-    rw m (ap (map (λ (l : Line). tabulate cycles (bitAt l))) (take-tabulate rows 128 (λ i. rowLine (getD rs i [])) h)
-    ∙ (map-tabulate (λ (l : Line). tabulate cycles (bitAt l)) rows (λ i. rowLine (getD rs i []))
-    ∙ (tabulate-ext rows (λ i. tabulate cycles (bitAt (rowLine (getD rs i [])))) (λ i. getD rs i []) (λ i n. row-of cycles (getD rs i []) l (each i (omega arith)))
+    rw m (ap (map (λ (l : Lane). tabulate cycles (bitAt l))) (take-tabulate rows 128 (λ i. rowLane (getD rs i [])) h)
+    ∙ (map-tabulate (λ (l : Lane). tabulate cycles (bitAt l)) rows (λ i. rowLane (getD rs i []))
+    ∙ (tabulate-ext rows (λ i. tabulate cycles (bitAt (rowLane (getD rs i [])))) (λ i. getD rs i []) (λ i n. row-of cycles (getD rs i []) l (each i (omega arith)))
     ∙ tabulate-getD rs rows [] e)))
 
 -- what is known of a table once its header is read
@@ -92,7 +92,7 @@ module _ (rows cycles : ℕ) (some-r : 1 ≤ rows) (most-r : rows ≤ 128) (some
             w ∙ ap (writtenBody 122 digitsText 1) (sym r),
             record {
               range = record { some-rows = some-r; most-rows = most-r; some-cycles = some-c; most-cycles = most-c };
-              unused = ap (placed 128 rowLine []) (sym r);
+              unused = ap (placed 128 rowLane []) (sym r);
             },
           )
 
@@ -131,23 +131,23 @@ by-line : (a : Activation) → writtenSheet a ≡ writtenLine (bytes "format") (
 unfolding writtenSheet
 by-line a = refl
 
-module _ (a : Activation) (full : length (a .lines) ≡ 128) where
-  digits : Line → List Bool
+module _ (a : Activation) (full : length (a .lanes) ≡ 128) where
+  digits : Lane → List Bool
   digits l = tabulate (min (a .cycles) 256) (bitAt l)
 
-  -- the digits of a line that is not there
+  -- the digits of a lane that is not there
   none : List Bool
   none = digits (record { words = [] })
 
   digits-length : (k : ℕ) → length (getD (rowsOf a) k none) ≡ min (a .cycles) 256
   unfolding digits none
   digits-length k =
-      let l : Line = getD (take (a .rows) (a .lines)) k (record { words = [] }) in
-      ap length (List·getD-map digits (take (a .rows) (a .lines)) k (record { words = [] })) ∙ length-tabulate (min (a .cycles) 256) 0 (bitAt l)
+      let l : Lane = getD (take (a .rows) (a .lanes)) k (record { words = [] }) in
+      ap length (List·getD-map digits (take (a .rows) (a .lanes)) k (record { words = [] })) ∙ length-tabulate (min (a .cycles) 256) 0 (bitAt l)
 
   rows-length : length (rowsOf a) ≡ min (a .rows) 128
   unfolding digits
-  rows-length = length-map (take (a .rows) (a .lines)) digits ∙ (length-take (a .rows) (a .lines) ∙ rw full)
+  rows-length = length-map (take (a .rows) (a .lanes)) digits ∙ (length-take (a .rows) (a .lanes) ∙ rw full)
 
   short : length (writtenSheet a) ≤ 65536
   short =
@@ -190,15 +190,15 @@ module _ (a : Activation) (full : length (a .lines) ≡ 128) where
         from-cycles ∙ (count-in (bytes "cycles") 1 256 CountOutOfRange 3 (FromBody (a .rows)) refl refl (a .cycles) (AfterCycles a) some-c most-c (omega arith) ∙ rw (rw n at b))
 
 -- WHAT IS READ OF A TABLE IN RANGE THAT IS WRITTEN: the same table, but for the bits that it does not use
-pub sheet-in-range : (a : Activation) → length (a .lines) ≡ 128 → InRange a → parseSheet (writtenSheet a) ≡ accepted (activationOf (a .rows) (a .cycles) (rowsOf a))
+pub sheet-in-range : (a : Activation) → length (a .lanes) ≡ 128 → InRange a → parseSheet (writtenSheet a) ≡ accepted (activationOf (a .rows) (a .cycles) (rowsOf a))
 sheet-in-range a full r = in-range a full (r .some-rows) (r .most-rows) (r .some-cycles) (r .most-cycles)
 
 -- AN ACTIVATION TABLE THAT IS WRITTEN IS READ BACK
 pub sheet-written : (a : Activation) → Valid a → parseSheet (writtenSheet a) ≡ accepted a
 sheet-written a v =
-    let full : length (a .lines) ≡ 128 = ap length (v .unused) ∙ length-tabulate 128 0 (λ i. rowLine (getD (rowsOf a) i [])) in
+    let full : length (a .lanes) ≡ 128 = ap length (v .unused) ∙ length-tabulate 128 0 (λ i. rowLane (getD (rowsOf a) i [])) in
     sheet-in-range a full (v .range)
-    ∙ ap (λ ls. accepted (record { rows = a .rows; cycles = a .cycles; lines = ls })) (sym (v .unused))
+    ∙ ap (λ ls. accepted (record { rows = a .rows; cycles = a .cycles; lanes = ls })) (sym (v .unused))
 
 -- TWO FILES THAT YIELD ONE TABLE ARE THE SAME
 pub sheet-once : (f g : List ℕ) (a : Activation) → parseSheet f ≡ accepted a → parseSheet g ≡ accepted a → f ≡ g
@@ -224,7 +224,7 @@ pub told : (a : Activation) {r : Outcome} → r ≡ outcomeOf 3 (parseSheet (wri
 told a e = (e, λ q. checked a (know e q))
 
 -- and one in range passes it
-pub checked-all : (a : Activation) → length (a .lines) ≡ 128 → InRange a → outcomeOf 3 (parseSheet (writtenSheet a)) ≡ Accepted
+pub checked-all : (a : Activation) → length (a .lanes) ≡ 128 → InRange a → outcomeOf 3 (parseSheet (writtenSheet a)) ≡ Accepted
 checked-all a full r = ap (outcomeOf 3) (sheet-in-range a full r)
 
 -- ---- the line of a refusal: three lines of the header, up to 128 rows, and the line behind them

@@ -8,9 +8,9 @@ use Rattle.tables.specs.Refusal.{numbered}
 use Rattle.tables.specs.Choice.{pick}
 use Rattle.tables.specs.Bytes.{bytes}
 use Rattle.tables.specs.Place.{placed}
-use Rattle.tables.specs.Bit.{lineOf}
+use Rattle.tables.specs.Bit.{laneOf}
 use Rattle.tables.specs.declared.trace.Activation.{Activation}
-use Rattle.tables.specs.declared.trace.Line.{Line}
+use Rattle.tables.specs.declared.trace.Lane.{Lane}
 use Rattle.text.specs.Line.{isKey, keyedLine}
 use Rattle.text.specs.Count.{countForm}
 use Rattle.text.specs.Digits.{digitsForm}
@@ -19,13 +19,13 @@ use Rattle.text.specs.Result.{Result, onLine, mapResult, outcomeOf, tableOr}
 use Rattle.text.specs.Result.Result.{refused}
 use Rattle.sheet_file.specs.declared.sheet.SheetAnswer.{SheetAnswer}
 
--- "one digit per cycle: that row's activator"; at cycle c, counted from 0, the line has digit c, and 0 where there is none
-abbrev pub rowLine : List Bool → Line
-rowLine r = lineOf (λ c. getD r c false)
+-- "one digit per cycle: that row's activator"; at cycle c, counted from 0, the lane has digit c, and 0 where there is none
+abbrev pub rowLane : List Bool → Lane
+rowLane r = laneOf (λ c. getD r c false)
 
--- what a sheet file stands for: its counts, and its rows as lines
+-- what a sheet file stands for: its counts, and its rows as lanes
 abbrev pub activationOf : ℕ → ℕ → List (List Bool) → Activation
-activationOf rows cycles rs = record { rows = rows; cycles = cycles; lines = placed 128 rowLine [] rs }
+activationOf rows cycles rs = record { rows = rows; cycles = cycles; lanes = placed 128 rowLane [] rs }
 
 -- "Sheet file: `format=1`, `rows=` (1 to 128, those of the normal form), `cycles=` (1 to 256), then `z1=` onward, one digit per
 -- cycle: that row's activator"; 122 is the letter z. "The file is longer than 65,536 bytes" is refused at line 0.

@@ -7,8 +7,8 @@ ghost use lib.ListN.{length, getD};
 ghost use Rattle.tables.specs.Bit.{wordFrom};
 ghost use Rattle.tables.specs.Choice.{pick};
 ghost use Rattle.text.specs.Digits.{digitsIn};
-ghost use Rattle.sheet_file.specs.Sheet.{rowLine};
-use tables::trace::Line;
+ghost use Rattle.sheet_file.specs.Sheet.{rowLane};
+use tables::trace::Lane;
 
 fn bit(digit: u8) -> u64
     ensures { λ r. ⌜ r ≡ pick (eqb digit 49) 1 0 ⌝ }
@@ -48,12 +48,12 @@ fn row_word(value: &[u8], i: usize) -> u64
     digits_to_word(value, from, 64)
 }
 
-// The line of a row: the bit of a cycle is set where its digit is 1.
-pub fn digits_to_line(value: &[u8]) -> Line
+// The lane of a row: the bit of a cycle is set where its digit is 1.
+pub fn digits_to_lane(value: &[u8]) -> Lane
     requires { ⌜ length (now value) ≤ 256 ⌝ }
-    ensures { λ r. ⌜ r ≡ rowLine (digitsIn (now (value .entry))) ⌝ }
+    ensures { λ r. ⌜ r ≡ rowLane (digitsIn (now (value .entry))) ⌝ }
 {
-    Line {
+    Lane {
         words: [
             row_word(value, 0),
             row_word(value, 1),

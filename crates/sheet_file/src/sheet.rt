@@ -10,7 +10,7 @@ use tables::refusal::Outcome;
 use tables::refusal::Reason;
 use tables::refusal::Refusal;
 use tables::trace::Activation;
-use tables::trace::Line;
+use tables::trace::Lane;
 use text::digits::Digits;
 use text::line::Counted;
 
@@ -24,7 +24,7 @@ pub struct SheetAnswer {
 fn refuse(reason: Reason, line: usize) -> SheetAnswer
     ensures { λ r. ⌜ r ≡ sheetAnswer (refused reason line) ⌝ }
 {
-    let lines = [Line { words: [0; 4] }; 128];
+    let lanes = [Lane { words: [0; 4] }; 128];
     SheetAnswer {
         outcome: Outcome::Refused(Refusal {
             reason,
@@ -34,7 +34,7 @@ fn refuse(reason: Reason, line: usize) -> SheetAnswer
         activation: Activation {
             rows: 0,
             cycles: 0,
-            lines,
+            lanes,
         },
     }
 }
@@ -46,13 +46,13 @@ fn read_rows(body: &[u8], rows: usize, cycles: usize) -> SheetAnswer
         (bodyLines 122 (λ r. digitsForm cycles) rows 1 4 (now (body .entry)))) ⌝ }
 {
     let mut rest = body;
-    let mut lines = [Line { words: [0; 4] }; 128];
+    let mut lanes = [Lane { words: [0; 4] }; 128];
     let mut k = 0;
     while k < rows {
         let Digits::At(from, end) = text::digits::digits_line(rest, b'z', k + 1, cycles) else {
             return refuse(Reason::WrongForm, k + 4);
         };
-        lines[k] = crate::row::digits_to_line(&rest[from..end]);
+        lanes[k] = crate::row::digits_to_lane(&rest[from..end]);
         rest = &rest[end + 1..];
         k += 1;
     }
@@ -64,7 +64,7 @@ fn read_rows(body: &[u8], rows: usize, cycles: usize) -> SheetAnswer
         activation: Activation {
             rows: rows as u8,
             cycles: cycles as u16,
-            lines,
+            lanes,
         },
     }
 }

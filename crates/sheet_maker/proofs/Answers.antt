@@ -22,7 +22,7 @@ use Rattle.meaning.proofs.Readings.{on-and-off}
 use Rattle.normal_form.specs.declared.sign.Sign.the-variants.{Plain}
 use Rattle.normal_form.specs.Numbering.{normalForm}
 use Rattle.normal_form.proofs.Ranges.{form-normal}
-use Rattle.truth.specs.Truth.{lineIn}
+use Rattle.truth.specs.Truth.{laneIn}
 use Rattle.judging.specs.Refusals.{pairOutcome}
 use Rattle.writing.specs.Answer.{writtenAnswer}
 use Rattle.writing.specs.Lent.{overlaid}
@@ -67,9 +67,9 @@ module _ (f : Formula) (t : Trace) (before : List ℕ) where
     pub most-cycles : a .cycles ≤ 256
     most-cycles = omega (arith, made .cycles, range .most-cycles)
 
-    module _ (e : pairOutcome f t ≡ Accepted) {b : Bool} (bit : b ≡ bitAt (lineIn (a .lines) (a .rows - 1)) 0) where
+    module _ (e : pairOutcome f t ≡ Accepted) {b : Bool} (bit : b ≡ bitAt (laneIn (a .lanes) (a .rows - 1)) 0) where
       root : (b ≡ true) ↔ Satisfied f t
-      root = subst⁻¹ (λ x. (x ≡ true) ↔ Satisfied f t) (bit ∙ ap (λ n. bitAt (lineIn (a .lines) (n - 1)) 0) (made .rows)) (made-root f t fine a (range .some-cycles) made)
+      root = subst⁻¹ (λ x. (x ≡ true) ↔ Satisfied f t) (bit ∙ ap (λ n. bitAt (laneIn (a .lanes) (n - 1)) 0) (made .rows)) (made-root f t fine a (range .some-cycles) made)
 
       pub sheet-makes : b ≡ true → {after : List ℕ} {answer : MakerAnswer} → answer ≡ answerOf (writtenAnswer (writtenSheet a) before) → after ≡ overlaid (writtenSheet a) before → TheOnlyPair (Makes f t before) after answer
       sheet-makes y {after} {answer} p q = only-makes f t before after answer (subst⁻¹ (λ o. MakesOn o f t before after answer) e (sheet (root .0 y) a made p q))

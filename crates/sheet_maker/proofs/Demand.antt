@@ -8,17 +8,17 @@ use mathlib.Core.Logic.{_↔_}
 use mathlib.Core.Bool.{Bool, true}
 use mathlib.Core.List.{List, []}
 use native.Mathlib.Omega.{arith}
-use Rattle.tables.specs.Bit.{bitAt, lineOf}
+use Rattle.tables.specs.Bit.{bitAt, laneOf}
 use Rattle.tables.specs.Place.{tabulate}
 use Rattle.tables.proofs.Places.{length-tabulate, getD-tabulate}
-use Rattle.tables.proofs.Bits.{bit-of-line}
+use Rattle.tables.proofs.Bits.{bit-of-lane}
 use Rattle.tables.specs.declared.refusal.Outcome.the-variants.{Accepted}
 use Rattle.tables.specs.declared.row.Formula.{Formula}
 use Rattle.tables.specs.declared.row.NormalForm.{NormalForm}
 use Rattle.tables.specs.declared.trace.Activation.{Activation}
 use Rattle.tables.specs.declared.trace.Ending.{Ending}
 use Rattle.tables.specs.declared.trace.Ending.the-variants.{Open, Loop}
-use Rattle.tables.specs.declared.trace.Line.{Line}
+use Rattle.tables.specs.declared.trace.Lane.{Lane}
 use Rattle.tables.specs.declared.trace.Trace.{Trace}
 use Rattle.rule_file.specs.Valid.{InRange as FormulaInRange}
 use Rattle.take_file.specs.Valid.{Below as LoopBelow, InRange as TraceInRange}
@@ -56,14 +56,14 @@ use Rattle.sheet_maker.proofs.ReadBack.{made-read}
 module _ (g : NormalForm) (t : Trace) (ok : InNormalForm g) (most : t .cycles ≤ 256) where
   -- the sheet of bits
   sheetOf : (ℕ → ℕ → Bool) → Activation
-  sheetOf bits = record { rows = g .rows; cycles = t .cycles; lines = tabulate 128 (λ i. lineOf (bits (suc i))) }
+  sheetOf bits = record { rows = g .rows; cycles = t .cycles; lanes = tabulate 128 (λ i. laneOf (bits (suc i))) }
 
   sheet-bit : (bits : ℕ → ℕ → Bool) (k c : ℕ) → IsRow g k → c < t .cycles → activatorAt (sheetOf bits) c k ≡ bits k c
   unfolding sheetOf
   sheet-bit bits k c h b =
       let e : suc (k - 1) ≡ k = omega (arith, h .0) in
-      ap (λ (l : Line). bitAt l c) (getD-tabulate 128 (λ i. lineOf (bits (suc i))) (k - 1) (record { words = [] }) (omega (arith, h .0, h .1, ok .most-rows)))
-      ∙ bit-of-line (bits (suc (k - 1))) c (omega arith) ∙ ap (λ j. bits j c) e
+      ap (λ (l : Lane). bitAt l c) (getD-tabulate 128 (λ i. laneOf (bits (suc i))) (k - 1) (record { words = [] }) (omega (arith, h .0, h .1, ok .most-rows)))
+      ∙ bit-of-lane (bits (suc (k - 1))) c (omega arith) ∙ ap (λ j. bits j c) e
 
   pub sheet-made : LoopBelow (t .cycles) (t .ending) → (a : Activation) × IsMade g t a
   unfolding sheetOf
@@ -71,7 +71,7 @@ module _ (g : NormalForm) (t : Trace) (ok : InNormalForm g) (most : t .cycles �
       let x = told-bits g t ok (t .ending) below in (
         sheetOf (x .0),
         record {
-          places = length-tabulate 128 0 (λ i. lineOf (x .0 (suc i)));
+          places = length-tabulate 128 0 (λ i. laneOf (x .0 (suc i)));
           rows = refl;
           cycles = refl;
           digits = λ k c h b.

@@ -8,18 +8,18 @@ use lib.ListN.{length, getD}
 use Rattle.tables.specs.Bit.{bitAt}
 use Rattle.tables.specs.Place.{tabulate}
 use Rattle.tables.proofs.Places.{length-tabulate, getD-tabulate}
-use Rattle.tables.proofs.Bits.{bit-of-line}
+use Rattle.tables.proofs.Bits.{bit-of-lane}
 use Rattle.tables.specs.declared.row.NormalForm.{NormalForm}
 use Rattle.tables.specs.declared.trace.Activation.{Activation}
-use Rattle.tables.specs.declared.trace.Line.{Line}
+use Rattle.tables.specs.declared.trace.Lane.{Lane}
 use Rattle.tables.specs.declared.trace.Trace.{Trace}
 use Rattle.text.specs.Result.Result.{accepted}
 use Rattle.take_file.specs.Valid.{InRange as TraceInRange}
-use Rattle.sheet_file.specs.Sheet.{rowLine, activationOf, parseSheet}
+use Rattle.sheet_file.specs.Sheet.{rowLane, activationOf, parseSheet}
 use Rattle.sheet_file.specs.Written.{rowsOf, writtenSheet}
 use Rattle.sheet_file.proofs.Sheets.{sheet-in-range}
 use Rattle.normal_form.specs.Form.{InNormalForm}
-use Rattle.truth.specs.Truth.{lineIn}
+use Rattle.truth.specs.Truth.{laneIn}
 use Rattle.sheet_maker.specs.Made.{IsMade}
 use Rattle.sheet_maker.proofs.Sheets.{rows-by-place}
 
@@ -29,21 +29,21 @@ module _ (g : NormalForm) (t : Trace) (a : Activation) (ok : InNormalForm g) (ra
   back = activationOf (a .rows) (a .cycles) (rowsOf a)
 
   digits : ℕ → List Bool
-  digits k = tabulate (min (a .cycles) 256) (bitAt (lineIn (a .lines) k))
+  digits k = tabulate (min (a .cycles) 256) (bitAt (laneIn (a .lanes) k))
 
-  same-digit : (k c : ℕ) → k < a .rows → c < a .cycles → bitAt (lineIn (back .lines) k) c ≡ bitAt (lineIn (a .lines) k) c
+  same-digit : (k c : ℕ) → k < a .rows → c < a .cycles → bitAt (laneIn (back .lanes) k) c ≡ bitAt (laneIn (a .lanes) k) c
   unfolding back digits
   same-digit k c h b =
       let row : getD (rowsOf a) k [] ≡ digits k = ap (λ rs. getD rs k []) (rows-by-place a (omega (arith, made .places, made .rows, ok .most-rows))) ∙ getD-tabulate (a .rows) digits k [] h in
-      ap (λ (l : Line). bitAt l c) (getD-tabulate 128 (λ i. rowLine (getD (rowsOf a) i [])) k (record { words = [] }) (omega (arith, made .rows, ok .most-rows)))
-      ∙ bit-of-line (λ i. getD (getD (rowsOf a) k []) i false) c (omega (arith, made .cycles, range .most-cycles))
+      ap (λ (l : Lane). bitAt l c) (getD-tabulate 128 (λ i. rowLane (getD (rowsOf a) i [])) k (record { words = [] }) (omega (arith, made .rows, ok .most-rows)))
+      ∙ bit-of-lane (λ i. getD (getD (rowsOf a) k []) i false) c (omega (arith, made .cycles, range .most-cycles))
       ∙ ap (λ ds. getD ds c false) row
-      ∙ getD-tabulate (min (a .cycles) 256) (bitAt (lineIn (a .lines) k)) c false (omega (arith, made .cycles, range .most-cycles))
+      ∙ getD-tabulate (min (a .cycles) 256) (bitAt (laneIn (a .lanes) k)) c false (omega (arith, made .cycles, range .most-cycles))
 
   back-made : IsMade g t back
   unfolding back digits
   back-made = record {
-    places = length-tabulate 128 0 (λ i. rowLine (getD (rowsOf a) i []));
+    places = length-tabulate 128 0 (λ i. rowLane (getD (rowsOf a) i []));
     rows = made .rows;
     cycles = made .cycles;
     digits = λ k c h b.

@@ -1,4 +1,4 @@
--- The sheet that is made: from lines that tell the truth; what its root says; and that its text is fixed. Assumes nothing.
+-- The sheet that is made: from lanes that tell the truth; what its root says; and that its text is fixed. Assumes nothing.
 use Prim.Native.Nat.{ℕ, suc, _-_, _≤_, _<_, min}
 use mathlib.Core.Path.{_≡_, refl, sym, ap, subst, _∙_}
 use mathlib.Core.Logic.{_↔_, Iff·trans}
@@ -15,7 +15,7 @@ use Rattle.tables.specs.declared.row.NormalForm.{NormalForm}
 use Rattle.tables.specs.declared.trace.Activation.{Activation}
 use Rattle.tables.specs.declared.trace.Ending.{Ending}
 use Rattle.tables.specs.declared.trace.Ending.the-variants.{Open, Loop}
-use Rattle.tables.specs.declared.trace.Line.{Line}
+use Rattle.tables.specs.declared.trace.Lane.{Lane}
 use Rattle.tables.specs.declared.trace.Trace.{Trace}
 use Rattle.rule_file.specs.Valid.{InRange as FormulaInRange}
 use Rattle.sheet_file.specs.Written.{rowsOf, writtenSheet}
@@ -24,20 +24,20 @@ use Rattle.normal_form.specs.Form.{InNormalForm}
 use Rattle.normal_form.specs.Numbering.{normalForm}
 use Rattle.normal_form.proofs.Ranges.{form-normal}
 use Rattle.normal_form.proofs.Demand.{satisfied-alike}
-use Rattle.truth.specs.Truth.{lineIn, TrueIn, TrueAt, Filled}
-use Rattle.row_lines.proofs.Passes.{shown-bit}
+use Rattle.truth.specs.Truth.{laneIn, TrueIn, TrueAt, Filled}
+use Rattle.row_lanes.proofs.Passes.{shown-bit}
 use Rattle.monitors.specs.Sheet.{activatorAt, IsRow}
 use Rattle.sheet_maker.specs.Made.{SatisfiedIn, Satisfied, IsMade}
 
--- lines that tell where their rows are true
-pub filled-made : (g : NormalForm) (t : Trace) (a : Activation) → t .cycles ≤ 256 → length (a .lines) ≡ 128 → a .rows ≡ g .rows → a .cycles ≡ t .cycles → Filled g t (a .lines) → IsMade g t a
+-- lanes that tell where their rows are true
+pub filled-made : (g : NormalForm) (t : Trace) (a : Activation) → t .cycles ≤ 256 → length (a .lanes) ≡ 128 → a .rows ≡ g .rows → a .cycles ≡ t .cycles → Filled g t (a .lanes) → IsMade g t a
 filled-made g t a most e r n filled = record { places = e; rows = r; cycles = n; digits = told }
   where
     told : (k c : ℕ) → IsRow g k → c < t .cycles → (activatorAt a c k ≡ true) ↔ TrueAt g t k c
     told k c h b =
         let x = filled (k - 1) (omega (arith, h .0, h .1)) in
         let s : suc (k - 1) ≡ k = omega (arith, h .0) in
-        let bit = shown-bit (t .cycles) (lineIn (a .lines) (k - 1)) (x .0) most (x .1) c b in
+        let bit = shown-bit (t .cycles) (laneIn (a .lanes) (k - 1)) (x .0) most (x .1) c b in
         let truth = subst (λ j. TrueAt g t j c ↔ (x .0 c ≡ true)) s (x .2 c b) in
         (λ y. truth .1 (sym bit ∙ y), λ y. bit ∙ truth .0 y)
 
@@ -63,13 +63,13 @@ same-on P false true p q = p .1 (q .0 refl)
 same-on P false false p q = refl
 
 -- the digits of a table's used rows, by their places
-pub rows-by-place : (a : Activation) → a .rows ≤ length (a .lines) → rowsOf a ≡ tabulate (a .rows) (λ k. tabulate (min (a .cycles) 256) (bitAt (lineIn (a .lines) k)))
+pub rows-by-place : (a : Activation) → a .rows ≤ length (a .lanes) → rowsOf a ≡ tabulate (a .rows) (λ k. tabulate (min (a .cycles) 256) (bitAt (laneIn (a .lanes) k)))
 rows-by-place a h =
-    let digits : Line → List Bool = λ l. tabulate (min (a .cycles) 256) (bitAt l) in
-    let l : length (take (a .rows) (a .lines)) ≡ a .rows = length-take-le (a .rows) (a .lines) h in
-    ap (map digits) (sym (tabulate-getD (take (a .rows) (a .lines)) (a .rows) (record { words = [] }) l))
-    ∙ map-tabulate digits (a .rows) (lineIn (take (a .rows) (a .lines)))
-    ∙ tabulate-ext (a .rows) _ _ (λ k b. ap digits (getD-take (a .rows) (a .lines) k (record { words = [] }) b))
+    let digits : Lane → List Bool = λ l. tabulate (min (a .cycles) 256) (bitAt l) in
+    let l : length (take (a .rows) (a .lanes)) ≡ a .rows = length-take-le (a .rows) (a .lanes) h in
+    ap (map digits) (sym (tabulate-getD (take (a .rows) (a .lanes)) (a .rows) (record { words = [] }) l))
+    ∙ map-tabulate digits (a .rows) (laneIn (take (a .rows) (a .lanes)))
+    ∙ tabulate-ext (a .rows) _ _ (λ k b. ap digits (getD-take (a .rows) (a .lanes) k (record { words = [] }) b))
 
 -- THE TEXT OF THE SHEET MADE IS FIXED
 pub made-unique : (g : NormalForm) (t : Trace) (a b : Activation) → g .rows ≤ 128 → IsMade g t a → IsMade g t b → writtenSheet a ≡ writtenSheet b
@@ -78,10 +78,10 @@ made-unique g t a b most x y =
     rw (rows-by-place a (omega (arith, x .places, x .rows)), rows-by-place b (omega (arith, y .places, y .rows)), x .rows, y .rows, x .cycles, y .cycles, same)
   where
     bits : Activation → ℕ → List Bool
-    bits s k = tabulate (min (t .cycles) 256) (bitAt (lineIn (s .lines) k))
+    bits s k = tabulate (min (t .cycles) 256) (bitAt (laneIn (s .lanes) k))
 
-    on : (s : Activation) → IsMade g t s → (k c : ℕ) → k < g .rows → c < t .cycles → (bitAt (lineIn (s .lines) k) c ≡ true) ↔ TrueAt g t (suc k) c
-    on s z k c h l = let e : suc k - 1 ≡ k = omega arith in subst (λ j. (bitAt (lineIn (s .lines) j) c ≡ true) ↔ TrueAt g t (suc k) c) e (z .digits (suc k) c (omega arith, omega arith) l)
+    on : (s : Activation) → IsMade g t s → (k c : ℕ) → k < g .rows → c < t .cycles → (bitAt (laneIn (s .lanes) k) c ≡ true) ↔ TrueAt g t (suc k) c
+    on s z k c h l = let e : suc k - 1 ≡ k = omega arith in subst (λ j. (bitAt (laneIn (s .lanes) j) c ≡ true) ↔ TrueAt g t (suc k) c) e (z .digits (suc k) c (omega arith, omega arith) l)
 
     same : tabulate (g .rows) (bits a) ≡ tabulate (g .rows) (bits b)
     same = tabulate-ext (g .rows) (bits a) (bits b)

@@ -11,7 +11,7 @@ use Rattle.tables.specs.Choice.{pick}
 use Rattle.tables.specs.Bit.{bitAt}
 use Rattle.tables.specs.Place.{tabulate}
 use Rattle.tables.specs.declared.trace.Activation.{Activation}
-use Rattle.tables.specs.declared.trace.Line.{Line}
+use Rattle.tables.specs.declared.trace.Lane.{Lane}
 use Rattle.tables.proofs.Places.{length-tabulate, getD-tabulate, take-tabulate}
 use Rattle.text.specs.Written.{decimal, digitsText, writtenLine, writtenBody}
 use Rattle.sheet_file.specs.Written.{rowsOf}
@@ -30,16 +30,16 @@ module _ (f : ℕ → Bool) (n : ℕ) where
   pub digits-next : digitsText (tabulate n f) ++ (pick (f n) 49 48 ∷ []) ≡ digitsText (tabulate (n + 1) f)
   digits-next = sym (ap (λ m. digitsText (tabulate m f)) (add-one n) ∙ ap digitsText tabulate-more ∙ map-append (λ b. pick b 49 48) (tabulate n f) (f n ∷ []))
 
-module _ (a : Activation) (full : length (a .lines) ≡ 128) (few : a .rows ≤ 128) where
-  pub rows-next : (k : ℕ) (d : Line) → a .cycles ≤ 256 → k < a .rows
-      → writtenBody 122 digitsText 1 (take k (rowsOf a)) ++ writtenLine (122 ∷ decimal (k + 1)) (digitsText (tabulate (a .cycles) (bitAt (getD (a .lines) k d)))) [] ≡ writtenBody 122 digitsText 1 (take (k + 1) (rowsOf a))
+module _ (a : Activation) (full : length (a .lanes) ≡ 128) (few : a .rows ≤ 128) where
+  pub rows-next : (k : ℕ) (d : Lane) → a .cycles ≤ 256 → k < a .rows
+      → writtenBody 122 digitsText 1 (take k (rowsOf a)) ++ writtenLine (122 ∷ decimal (k + 1)) (digitsText (tabulate (a .cycles) (bitAt (getD (a .lanes) k d)))) [] ≡ writtenBody 122 digitsText 1 (take (k + 1) (rowsOf a))
   rows-next k d short h =
       let m : a .cycles ≡ min (a .cycles) 256 = omega arith in
-      ap (λ n. writtenBody 122 digitsText 1 (take k (rowsOf a)) ++ writtenLine (122 ∷ decimal (k + 1)) (digitsText (tabulate n (bitAt (getD (a .lines) k d)))) []) m
-      ∙ places-next (λ (l : Line). tabulate (min (a .cycles) 256) (bitAt l)) (a .rows) (a .lines) (omega arith) 122 digitsText k d h
+      ap (λ n. writtenBody 122 digitsText 1 (take k (rowsOf a)) ++ writtenLine (122 ∷ decimal (k + 1)) (digitsText (tabulate n (bitAt (getD (a .lanes) k d)))) []) m
+      ∙ places-next (λ (l : Lane). tabulate (min (a .cycles) 256) (bitAt l)) (a .rows) (a .lanes) (omega arith) 122 digitsText k d h
 
   pub rows-all : (k : ℕ) → a .rows ≤ k → take k (rowsOf a) ≡ rowsOf a
-  rows-all k h = places-all (λ (l : Line). tabulate (min (a .cycles) 256) (bitAt l)) (a .rows) (a .lines) (omega arith) k h
+  rows-all k h = places-all (λ (l : Lane). tabulate (min (a .cycles) 256) (bitAt l)) (a .rows) (a .lanes) (omega arith) k h
 
 -- the length of a part of a written buffer
 pub part-length : {b t a : List ℕ} {e : ℕ} (n : ℕ) → Wrote b 0 t a e → n ≤ length a → n ≡ length (take n a)

@@ -29,7 +29,7 @@ Satisfied f t = SatisfiedIn f t (t .ending)
 -- "The sheet made has a 1 where the row is true at that cycle (strongly, for an open take)": the rows are the normal form's and the
 -- cycles the take's; the table has its 128 places, as every one has
 pub record IsMade (g : NormalForm) (t : Trace) (a : Activation) : Type 0 where
-  pub places : length (a .lines) ≡ 128
+  pub places : length (a .lanes) ≡ 128
   pub rows : a .rows ≡ g .rows
   pub cycles : a .cycles ≡ t .cycles
   pub digits : (k c : ℕ) → IsRow g k → c < t .cycles → (activatorAt a c k ≡ true) ↔ TrueAt g t k c

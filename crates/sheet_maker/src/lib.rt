@@ -36,11 +36,11 @@ pub fn truth_sheet(formula: Formula, trace: Trace) -> Activation
 {
     let form = normal_form::normal_form(formula, Sign::Plain);
     let truth = truth::fill::fill(form, trace);
-    let lines = truth.lines;
+    let lanes = truth.lanes;
     Activation {
         rows: form.rows,
         cycles: trace.cycles,
-        lines,
+        lanes,
     }
 }
 
@@ -74,9 +74,9 @@ pub fn make_sheet(formula: Formula, trace: Trace, buf: &mut [u8]) -> MakerAnswer
         Outcome::Refused(refusal) => MakerAnswer::Refused(refusal),
         Outcome::Accepted => {
             let sheet = truth_sheet(formula, trace);
-            let lines = sheet.lines;
+            let lanes = sheet.lanes;
             let root = sheet.rows as usize - 1;
-            if lines::line::bit(lines[root], 0) {
+            if lanes::lane::bit(lanes[root], 0) {
                 write_sheet(sheet, buf)
             } else {
                 MakerAnswer::None

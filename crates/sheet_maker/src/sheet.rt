@@ -10,7 +10,7 @@ ghost use Rattle.text.specs.Written.{decimal, digitsText, writtenBody, writtenL
 ghost use Rattle.sheet_file.specs.Written.{rowsOf, writtenSheet};
 ghost use Rattle.writing.specs.Lent.{Wrote};
 use tables::trace::Activation;
-use tables::trace::Line;
+use tables::trace::Lane;
 use writing::line::put_number_line;
 use writing::put::put_byte;
 use writing::put::put_number;
@@ -25,16 +25,16 @@ fn digit(on: bool) -> u8
 }
 
 // One digit for each cycle.
-fn put_digits(buf: &mut [u8], at: usize, line: Line, cycles: u16) -> usize
+fn put_digits(buf: &mut [u8], at: usize, lane: Lane, cycles: u16) -> usize
     requires { ⌜ (cycles ≤ 256) × (at + 256 ≤ length (now buf)) ⌝ }
-    ensures { λ r. ⌜ Wrote (now (buf .entry)) at (digitsText (tabulate cycles (bitAt line))) (now (buf .exit)) r ⌝ }
+    ensures { λ r. ⌜ Wrote (now (buf .entry)) at (digitsText (tabulate cycles (bitAt lane))) (now (buf .exit)) r ⌝ }
     ensures { λ r. ⌜ r ≤ at + 256 ⌝ }
 {
     let count = cycles as usize;
     let mut i = at;
     let mut c = 0;
     while c < count {
-        let on = lines::line::bit(line, c);
+        let on = lanes::lane::bit(lane, c);
         i = put_byte(&mut *buf, i, digit(on));
         c += 1;
     }
@@ -42,16 +42,16 @@ fn put_digits(buf: &mut [u8], at: usize, line: Line, cycles: u16) -> usize
 }
 
 // The line of row `number`.
-fn put_row(buf: &mut [u8], at: usize, number: u8, line: Line, cycles: u16) -> usize
+fn put_row(buf: &mut [u8], at: usize, number: u8, lane: Lane, cycles: u16) -> usize
     requires { ⌜ (cycles ≤ 256) × (at + 262 ≤ length (now buf)) ⌝ }
-    ensures { λ r. ⌜ Wrote (now (buf .entry)) at (writtenLine (122 ∷ decimal number) (digitsText (tabulate cycles (bitAt line))) [])
+    ensures { λ r. ⌜ Wrote (now (buf .entry)) at (writtenLine (122 ∷ decimal number) (digitsText (tabulate cycles (bitAt lane))) [])
         (now (buf .exit)) r ⌝ }
     ensures { λ r. ⌜ r ≤ at + 262 ⌝ }
 {
     let a = put_byte(&mut *buf, at, b'z');
     let b = put_number(&mut *buf, a, number as u16);
     let c = put_byte(&mut *buf, b, b'=');
-    let d = put_digits(&mut *buf, c, line, cycles);
+    let d = put_digits(&mut *buf, c, lane, cycles);
     put_byte(buf, d, b'\n')
 }
 
@@ -63,8 +63,8 @@ fn put_rows(buf: &mut [u8], at: usize, sheet: Activation) -> usize
     let mut i = at;
     let mut k: u8 = 0;
     while k < sheet.rows {
-        let line = sheet.lines[k as usize];
-        i = put_row(&mut *buf, i, k + 1, line, sheet.cycles);
+        let lane = sheet.lanes[k as usize];
+        i = put_row(&mut *buf, i, k + 1, lane, sheet.cycles);
         k += 1;
     }
     i

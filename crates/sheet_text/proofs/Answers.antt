@@ -14,7 +14,7 @@ use Rattle.rule_file.specs.Valid.{InRange as FormulaInRange}
 use Rattle.take_file.specs.Valid.{InRange as TraceInRange}
 use Rattle.sheet_file.specs.Written.{writtenSheet}
 use Rattle.meaning.proofs.Readings.{on-and-off}
-use Rattle.truth.specs.Truth.{lineIn}
+use Rattle.truth.specs.Truth.{laneIn}
 use Rattle.sheet_maker.specs.Made.{Satisfied, IsMade}
 use Rattle.sheet_maker.proofs.Sheets.{made-root}
 use Rattle.normal_form.specs.declared.sign.Sign.the-variants.{Plain}
@@ -28,9 +28,9 @@ module _ (f : Formula) (t : Trace) where
   pub differ-text : (f .signals ≡ t .signals → ⊥) → IsPairText (eqb (f .signals) (t .signals)) f t (refusalText (record { reason = SignalsDiffer; file = 0; line = 0 }))
   differ-text n = subst⁻¹ (λ b. IsPairText b f t (refusalText (record { reason = SignalsDiffer; file = 0; line = 0 }))) (ne-eqb (f .signals) (t .signals) n) refl
 
-  module _ (fine : FormulaInRange f) (range : TraceInRange t) (same : f .signals ≡ t .signals) (a : Activation) (made : IsMade (normalForm f Plain) t a) {b : Bool} (bit : b ≡ bitAt (lineIn (a .lines) (a .rows - 1)) 0) where
+  module _ (fine : FormulaInRange f) (range : TraceInRange t) (same : f .signals ≡ t .signals) (a : Activation) (made : IsMade (normalForm f Plain) t a) {b : Bool} (bit : b ≡ bitAt (laneIn (a .lanes) (a .rows - 1)) 0) where
     root : (b ≡ true) ↔ Satisfied f t
-    root = subst⁻¹ (λ x. (x ≡ true) ↔ Satisfied f t) (bit ∙ ap (λ n. bitAt (lineIn (a .lines) (n - 1)) 0) (made .rows)) (made-root f t fine a (range .some-cycles) made)
+    root = subst⁻¹ (λ x. (x ≡ true) ↔ Satisfied f t) (bit ∙ ap (λ n. bitAt (laneIn (a .lanes) (n - 1)) 0) (made .rows)) (made-root f t fine a (range .some-cycles) made)
 
     pub sheet-text : b ≡ true → IsPairText (eqb (f .signals) (t .signals)) f t (writtenSheet a)
     sheet-text y = subst⁻¹ (λ b. IsPairText b f t (writtenSheet a)) (eq-eqb (f .signals) (t .signals) same) (sheet (root .0 y) a made refl)

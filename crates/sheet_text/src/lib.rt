@@ -31,9 +31,9 @@ fn put_pair(buf: &mut [u8], formula: Formula, trace: Trace) -> usize
         return writing::line::put_refusal(buf, 0, refusal);
     }
     let sheet = sheet_maker::truth_sheet(formula, trace);
-    let lines = sheet.lines;
+    let lanes = sheet.lanes;
     let root = sheet.rows as usize - 1;
-    if lines::line::bit(lines[root], 0) {
+    if lanes::lane::bit(lanes[root], 0) {
         return sheet_maker::sheet::put_sheet(buf, sheet);
     }
     writing::put::put(buf, 0, b"none\n")

@@ -19,7 +19,7 @@ use Rattle.normal_form.specs.Numbering.{normalForm}
 use Rattle.normal_form.proofs.Ranges.{form-normal}
 use Rattle.normal_form.proofs.FormTables.{form-ordered, form-positive, form-signals}
 use Rattle.normal_form.proofs.Demand.{satisfied-alike}
-use Rattle.monitors.specs.Run.{Activators}
+use Rattle.monitors.specs.Along.{Activators}
 use Rattle.monitors.proofs.Soundness.{outputFrom, HandedOn, Unfailing, active-row-true}
 use Rattle.step.specs.Step.{digitAt, rowsIn}
 use Rattle.step.specs.Calls.{Call, given, InOrder, kept, handed, answered, left, TakeOf, StepsPass}
@@ -33,7 +33,7 @@ module _ (f : Formula) (calls : ℕ → Call) where
   abbrev table : Table
   table = tableOf (g .places)
 
-  -- ---- the answered calls as a run of the monitors
+  -- ---- the answered calls as the monitors along a trace
   module _ (at : ℕ → ℕ) (order : InOrder (answered f calls) at) where
     abbrev signals : InfiniteTrace
     signals c s = digitAt (calls (at c) .signals) s
@@ -49,8 +49,8 @@ module _ (f : Formula) (calls : ℕ → Call) where
     range : InRange f
     range = answered-range f calls (at 0) (order .each 0)
 
-    handed-runs : HandedOn table (suc (g .rows)) signals active pending
-    handed-runs = record { fresh = fresh; next = next }
+    handed-pendings : HandedOn table (suc (g .rows)) signals active pending
+    handed-pendings = record { fresh = fresh; next = next }
       where
         fresh : (k : ℕ) → k < suc (g .rows) → pending 0 k ≡ false
         fresh zero h = refl
@@ -90,10 +90,10 @@ module _ (f : Formula) (calls : ℕ → Call) where
           not-not-on (active 0 (g .rows))
           (λ n. passes .root-active (λ x. n (subst⁻¹ (λ i. digitAt (calls i .activators) (rowsIn f) ≡ true) (first-unique order (x .0) (x .1 .0 .0) (x .1 .0 .1)) (x .1 .1))))
 
-      run-satisfies : SatisfiesNormal classical signals g
-      run-satisfies =
+      answered-satisfy : SatisfiesNormal classical signals g
+      answered-satisfy =
           let ok : InNormalForm g = form-normal f Plain range in
-          active-row-true table (suc (g .rows)) signals active pending (form-ordered g ok) (form-positive g ok) handed-runs none-fail classical classical-full (g .rows) (omega arith) 0 root
+          active-row-true table (suc (g .rows)) signals active pending (form-ordered g ok) (form-positive g ok) handed-pendings none-fail classical classical-full (g .rows) (omega arith) 0 root
 
   -- THE CLAIM: where the root is active in the first answered call, no answered call writes a failed of 1 and each row's accept is 1
   -- in endlessly many of them, the endless take of the answered calls satisfies the rule
@@ -107,7 +107,7 @@ module _ (f : Formula) (calls : ℕ → Call) where
       λ i l k h. each-signal-map _ _ (table k) (λ s x. take .cycles i s (x .0) (x .1)) (form-signals g ok k h) in
       satisfied-alike f fine w .0
       (truth-local classical w (signals at (take .in-order)) table (suc (g .rows)) (form-ordered g ok) 0 same (g .rows) (omega arith) 0 (omega arith) .1
-      (run-satisfies at (take .in-order) passes))
+      (answered-satisfy at (take .in-order) passes))
 
   -- there is one such take, as far as its signals go
   pub take-unique : (v w : InfiniteTrace) → TakeOf f calls v → TakeOf f calls w → (c s : ℕ) → 1 ≤ s → s ≤ f .signals → v c s ≡ w c s

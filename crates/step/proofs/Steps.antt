@@ -45,7 +45,7 @@ pub digit-not-one : (b : Bool) → ¬ (digitOf b ≡ 49) → b ≡ false
 digit-not-one true n = absurd (n refl)
 digit-not-one false n = refl
 
--- ---- the three runs of the output
+-- ---- the three stripes of the output
 module _ (g : NormalForm) (p a s rest : List ℕ) where
   abbrev n : ℕ
   n = g .rows
@@ -59,9 +59,9 @@ module _ (g : NormalForm) (p a s rest : List ℕ) where
   pending : List ℕ
   pending = tabulate n (pendingDigit g p a s)
 
-  runs : formOutput g p a s ++ rest ≡ failed ++ (accept ++ (pending ++ rest))
+  stripes : formOutput g p a s ++ rest ≡ failed ++ (accept ++ (pending ++ rest))
   unfolding formOutput failed accept pending
-  runs = rw (append-assoc, append-assoc)
+  stripes = rw (append-assoc, append-assoc)
 
   failed-size : length failed ≡ n
   unfolding failed
@@ -79,12 +79,12 @@ module _ (g : NormalForm) (p a s rest : List ℕ) where
     pub failed-byte : getD (formOutput g p a s ++ rest) k 0 ≡ failedDigit g p a s k
     unfolding failed
     failed-byte =
-        ap (λ l. getD l k 0) runs ∙ (List·getD-append failed (accept ++ (pending ++ rest)) 0 k (omega (arith, failed-size)) ∙ getD-tabulate n (failedDigit g p a s) k 0 h)
+        ap (λ l. getD l k 0) stripes ∙ (List·getD-append failed (accept ++ (pending ++ rest)) 0 k (omega (arith, failed-size)) ∙ getD-tabulate n (failedDigit g p a s) k 0 h)
 
     pub accept-byte : getD (formOutput g p a s ++ rest) (n + k) 0 ≡ acceptDigit g p a s k
     unfolding accept
     accept-byte =
-        ap (λ l. getD l (n + k) 0) runs
+        ap (λ l. getD l (n + k) 0) stripes
         ∙ (ap (λ m. getD (failed ++ (accept ++ (pending ++ rest))) (m + k) 0) (sym failed-size)
         ∙ (getD-append-add failed (accept ++ (pending ++ rest)) k 0
         ∙ (List·getD-append accept (pending ++ rest) 0 k (omega (arith, accept-size)) ∙ getD-tabulate n (acceptDigit g p a s) k 0 h)))
@@ -94,7 +94,7 @@ module _ (g : NormalForm) (p a s rest : List ℕ) where
   pending-part =
       let e : 3 * n - 2 * n ≡ n = omega arith in
       let l : length (failed ++ accept) ≡ 2 * n = simp length-append (omega (arith, failed-size, accept-size)) in
-      let w : formOutput g p a s ++ rest ≡ (failed ++ accept) ++ (pending ++ rest) = runs ∙ sym (append-assoc failed accept (pending ++ rest)) in
+      let w : formOutput g p a s ++ rest ≡ (failed ++ accept) ++ (pending ++ rest) = stripes ∙ sym (append-assoc failed accept (pending ++ rest)) in
       rw (e, w, drop-at (failed ++ accept) (pending ++ rest) (2 * n) l) (take-at pending rest n pending-size)
 
 -- ---- a call

@@ -1,4 +1,4 @@
--- Three runs of n digits in a buffer, of which each turn of a loop writes one digit of each. Assumes nothing.
+-- Three stripes of n digits in a buffer, of which each turn of a loop writes one digit of each. Assumes nothing.
 use Prim.Native.Nat.{ℕ, _+_, _*_, _≤_, _<_}
 use mathlib.Core.Path.{_≡_, sym, _∙_}
 use mathlib.Core.List.{List, _++_, append-assoc}
@@ -25,7 +25,7 @@ piece n x m a e s h at =
     sym (take-append-drop n (drop a m)) ∙ rw (whole, drop-drop n a m, s)
 
 module _ (n : ℕ) (x y z : ℕ → ℕ) (b : List ℕ) where
-  -- the first k digits of each run are written, and nothing behind the three
+  -- the first k digits of each stripe are written, and nothing behind the three
   pub record StripesTo (k : ℕ) (m : List ℕ) : Type 0 where
     pub size : length m ≡ length b
     pub rest : drop (3 * n) m ≡ drop (3 * n) b

@@ -1,4 +1,4 @@
--- Laws of lines and their bits. Assumes nothing.
+-- Laws of lanes and their bits. Assumes nothing.
 use mathlib.Core.Path.{_≡_, refl, sym, ap, _∙_}
 use mathlib.Core.Bool.{Bool, true, false}
 use Prim.Native.Nat.{ℕ, zero, suc, _+_, _*_, _-_, _/_, _%_, _^_, _≤_, _<_}
@@ -9,7 +9,7 @@ use lib.Dec.{eqb}
 use lib.ListN.{getD, set}
 use Rattle.tables.specs.Choice.{pick}
 use Rattle.tables.specs.Place.{tabulate}
-use Rattle.tables.specs.Bit.{bitAt, wordFrom, lineOf, marked}
+use Rattle.tables.specs.Bit.{bitAt, wordFrom, laneOf, marked}
 use Rattle.tables.proofs.Places.{getD-tabulate, tabulate-ext, set-tabulate}
 
 pub digit : (b : Bool) → pick b 1 0 < 2
@@ -68,14 +68,14 @@ word-bit (suc n) k f (suc i) h =
     rw (p, d, e) (word-bit n (suc k) f i (omega arith))
 
 -- the word in which cycle c stands
-pub word-of : (f : ℕ → Bool) (c : ℕ) → c < 256 → getD (lineOf f .words) (c / 64) 0 ≡ wordFrom 64 (c / 64 * 64) f
-unfolding lineOf
+pub word-of : (f : ℕ → Bool) (c : ℕ) → c < 256 → getD (laneOf f .words) (c / 64) 0 ≡ wordFrom 64 (c / 64 * 64) f
+unfolding laneOf
 word-of f c h = getD-tabulate 4 (λ i. wordFrom 64 (i * 64) f) (c / 64) 0 (omega arith)
 
 -- A LINE IS AT EACH CYCLE WHAT IT WAS MADE OF
-pub bit-of-line : (f : ℕ → Bool) (c : ℕ) → c < 256 → bitAt (lineOf f) c ≡ f c
+pub bit-of-lane : (f : ℕ → Bool) (c : ℕ) → c < 256 → bitAt (laneOf f) c ≡ f c
 unfolding bitAt
-bit-of-line f c h =
+bit-of-lane f c h =
     let e : c / 64 * 64 + c % 64 ≡ c = omega arith in
     rw (word-of f c h, word-bit 64 (c / 64 * 64) f (c % 64) (omega arith), e) (by (f c))
   where
@@ -83,9 +83,9 @@ bit-of-line f c h =
     by true = refl
     by false = refl
 
-pub line-ext : (f g : ℕ → Bool) → ((c : ℕ) → c < 256 → f c ≡ g c) → lineOf f ≡ lineOf g
-unfolding lineOf
-line-ext f g e =
+pub lane-ext : (f g : ℕ → Bool) → ((c : ℕ) → c < 256 → f c ≡ g c) → laneOf f ≡ laneOf g
+unfolding laneOf
+lane-ext f g e =
     rw (tabulate-ext 4 (λ i. wordFrom 64 (i * 64) f) (λ i. wordFrom 64 (i * 64) g) (λ i h. word-ext 64 (i * 64) f g (λ j a b. e j (omega arith))))
 
 module _ {f g : ℕ → Bool} {c : ℕ} (m : OneMore f g c) (h : c < 256) where
@@ -95,12 +95,12 @@ module _ {f g : ℕ → Bool} {c : ℕ} (m : OneMore f g c) (h : c < 256) where
       rw e at (word-marked m 64 (c / 64 * 64) (omega arith) (omega arith))
 
   -- there is room for the bit
-  pub mark-room : getD (lineOf f .words) (c / 64) 0 + 2 ^ (c % 64) < 2 ^ 64
+  pub mark-room : getD (laneOf f .words) (c / 64) 0 + 2 ^ (c % 64) < 2 ^ 64
   mark-room = rw (word-of f c h, in-word) (word-below 64 (c / 64 * 64) g)
 
-  pub line-marked : marked (lineOf f) c ≡ lineOf g
-  unfolding marked lineOf
-  line-marked =
+  pub lane-marked : marked (laneOf f) c ≡ laneOf g
+  unfolding marked laneOf
+  lane-marked =
       let w : getD (tabulate 4 (λ i. wordFrom 64 (i * 64) f)) (c / 64) 0 ≡ wordFrom 64 (c / 64 * 64) f = word-of f c h in
       let s : set (tabulate 4 (λ i. wordFrom 64 (i * 64) f)) (c / 64) (wordFrom 64 (c / 64 * 64) g) ≡ tabulate 4 (λ i. wordFrom 64 (i * 64) g) =
       set-tabulate 4 (λ i. wordFrom 64 (i * 64) f) (λ i. wordFrom 64 (i * 64) g) (c / 64) 0 (omega arith)

@@ -4,9 +4,9 @@ ghost use Prim.Native.Nat.{_+_, _/_, _%_, _^_, _<_};
 ghost use lib.ListN.{getD};
 ghost use Rattle.tables.specs.Bit.{marked};
 
-// A line: what one signal or one row is at each of up to 256 cycles; cycle c is bit c % 64 of word c / 64. Unused bits are 0.
+// A lane: what one signal or one row is at each of up to 256 cycles; cycle c is bit c % 64 of word c / 64. Unused bits are 0.
 // Packed so that a take has 1 KB and a sheet 4 KB, and the layers above treat 64 cycles in one operation.
-pub struct Line {
+pub struct Lane {
     pub words: [u64; 4],
 }
 
@@ -16,19 +16,19 @@ pub enum Ending {
     Loop(u16),
 }
 
-// A trace (01: a take): a line for each signal, signal 1 first.
+// A trace (01: a take): a lane for each signal, signal 1 first.
 pub struct Trace {
     pub signals: u8,
     pub cycles: u16,
     pub ending: Ending,
-    pub lines: [Line; 32],
+    pub lanes: [Lane; 32],
 }
 
-// An activation table (01: a sheet): a line for each row of a normal form, row 1 first.
+// An activation table (01: a sheet): a lane for each row of a normal form, row 1 first.
 pub struct Activation {
     pub rows: u8,
     pub cycles: u16,
-    pub lines: [Line; 128],
+    pub lanes: [Lane; 128],
 }
 
 fn power_of_two(k: usize) -> u64
@@ -38,13 +38,13 @@ fn power_of_two(k: usize) -> u64
     1u64 << k
 }
 
-// The line with one bit more. Each bit is set once only, so that a sum serves.
-pub fn with_bit(line: Line, cycle: usize) -> Line
-    requires { ⌜ (cycle < 256) × (getD (line .words) (cycle / 64) 0 + 2 ^ (cycle % 64) < 2 ^ 64) ⌝ }
-    ensures { λ r. ⌜ r ≡ marked line cycle ⌝ }
+// The lane with one bit more. Each bit is set once only, so that a sum serves.
+pub fn with_bit(lane: Lane, cycle: usize) -> Lane
+    requires { ⌜ (cycle < 256) × (getD (lane .words) (cycle / 64) 0 + 2 ^ (cycle % 64) < 2 ^ 64) ⌝ }
+    ensures { λ r. ⌜ r ≡ marked lane cycle ⌝ }
 {
-    let mut words = line.words;
+    let mut words = lane.words;
     let at = cycle / 64;
     words[at] = words[at] + power_of_two(cycle % 64);
-    Line { words }
+    Lane { words }
 }

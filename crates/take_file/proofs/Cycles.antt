@@ -1,4 +1,4 @@
--- The words of the signals, digit by digit and cycle by cycle, and the lines from them. Assumes nothing.
+-- The words of the signals, digit by digit and cycle by cycle, and the lanes from them. Assumes nothing.
 use mathlib.Core.Path.{_≡_, refl, sym, ap, ap₂, _∙_}
 use mathlib.Core.Bool.{Bool, true, false}
 use mathlib.Core.List.{List, [], _∷_, _++_}
@@ -13,14 +13,14 @@ use lib.Seq.{take-suc, take-all, length-take-le, getD-append-seam, getD-set-same
 use borrow.Author.Tests.{eq-eqb, ne-eqb}
 use Rattle.tables.specs.Choice.{pick}
 use Rattle.tables.specs.Place.{tabulateFrom, tabulate}
-use Rattle.tables.specs.Bit.{wordFrom, lineOf, marked}
-use Rattle.tables.specs.declared.trace.Line.{Line}
+use Rattle.tables.specs.Bit.{wordFrom, laneOf, marked}
+use Rattle.tables.specs.declared.trace.Lane.{Lane}
 use Rattle.tables.proofs.Places.{length-tabulate, tabulate-getD, getD-tabulate, tabulate-ext, set-tabulate, replicate-tabulate, snoc-other}
 use Rattle.tables.proofs.Bits.{word-ext, word-of}
-use Rattle.tables.proofs.Marks.{line-none, bit-room, line-digit}
+use Rattle.tables.proofs.Marks.{lane-none, bit-room, lane-digit}
 use Rattle.text.specs.Digits.{digitsIn}
-use Rattle.take_file.specs.Cycle.{added, cyclePut, RoomAt, lineFrom, linesFrom}
-use Rattle.take_file.specs.Take.{digit, linesOf}
+use Rattle.take_file.specs.Cycle.{added, cyclePut, RoomAt, laneFrom, lanesFrom}
+use Rattle.take_file.specs.Take.{digit, lanesOf}
 
 -- ---- the digits of one cycle, one after the other: the first s are put
 pub record PutAt (before value : List ℕ) (cycle s : ℕ) (words : List ℕ) : Type 0 where
@@ -131,15 +131,15 @@ words-none = tabulate-ext 128 (λ i. wordFrom 64 (i / 32 * 64) (λ c. false)) (�
 -- the word of a cycle gets its bit
 word-digit : (f : ℕ → Bool) (c : ℕ) (h : c < 256) (unset : f c ≡ false) (g : ℕ → Bool) → ((i : ℕ) → (i ≡ c → ⊥) → g i ≡ f i)
     → wordFrom 64 (c / 64 * 64) f + pick (g c) (2 ^ (c % 64)) 0 ≡ wordFrom 64 (c / 64 * 64) g
-unfolding marked lineOf
-word-digit f c h unset g other = by (g c) (ap (λ (l : Line). getD (l .words) (c / 64) 0) (line-digit f c h unset g other) ∙ word-of g c h)
+unfolding marked laneOf
+word-digit f c h unset g other = by (g c) (ap (λ (l : Lane). getD (l .words) (c / 64) 0) (lane-digit f c h unset g other) ∙ word-of g c h)
   where
-    long : c / 64 < length (lineOf f .words)
+    long : c / 64 < length (laneOf f .words)
     long = rw length-tabulate (omega arith)
 
-    by : (t : Bool) → getD (pick t (marked (lineOf f) c) (lineOf f) .words) (c / 64) 0 ≡ wordFrom 64 (c / 64 * 64) g
+    by : (t : Bool) → getD (pick t (marked (laneOf f) c) (laneOf f) .words) (c / 64) 0 ≡ wordFrom 64 (c / 64 * 64) g
         → wordFrom 64 (c / 64 * 64) f + pick t (2 ^ (c % 64)) 0 ≡ wordFrom 64 (c / 64 * 64) g
-    by true e = rw (← word-of f c h) (sym (getD-set-same (lineOf f .words) (c / 64) (getD (lineOf f .words) (c / 64) 0 + 2 ^ (c % 64)) 0 long) ∙ e)
+    by true e = rw (← word-of f c h) (sym (getD-set-same (laneOf f .words) (c / 64) (getD (laneOf f .words) (c / 64) 0 + 2 ^ (c % 64)) 0 long) ∙ e)
     by false e = rw add-zero (sym (word-of f c h) ∙ e)
 
 module _ (done : List (List Bool)) (h : length done < 256) where
@@ -177,19 +177,19 @@ module _ (done : List (List Bool)) (h : length done < 256) where
           rw (ne-eqb (i / 32) (length done / 64) n, add-zero)
           (word-ext 64 (i / 32 * 64) (λ c. digit done c (i % 32)) (λ c. digit (done ++ (digitsIn value ∷ [])) c (i % 32)) (λ j a b. sym (old (i % 32) j (λ q. n (omega arith)))))
 
--- ---- the lines
+-- ---- the lanes
 four : (f : ℕ → ℕ) → f 0 ∷ f 1 ∷ f 2 ∷ f 3 ∷ [] ≡ tabulate 4 f
 unfolding tabulateFrom
 four f = refl
 
-pub lines-of-words : (done : List (List Bool)) → linesFrom (wordsOf done) ≡ linesOf done
-unfolding linesFrom lineOf
-lines-of-words done = tabulate-ext 32 (lineFrom (wordsOf done)) (λ s. lineOf (λ c. digit done c s)) one
+pub lanes-of-words : (done : List (List Bool)) → lanesFrom (wordsOf done) ≡ lanesOf done
+unfolding lanesFrom laneOf
+lanes-of-words done = tabulate-ext 32 (laneFrom (wordsOf done)) (λ s. laneOf (λ c. digit done c s)) one
   where
     word : (s b p : ℕ) → p < 128 → p / 32 ≡ b → p % 32 ≡ s → getD (wordsOf done) p 0 ≡ wordFrom 64 (b * 64) (λ c. digit done c s)
     word s b p h x y = getD-tabulate 128 (λ i. wordFrom 64 (i / 32 * 64) (λ c. digit done c (i % 32))) p 0 h ∙ ap₂ (λ k t. wordFrom 64 (k * 64) (λ c. digit done c t)) x y
 
-    one : (s : ℕ) → s < 32 → lineFrom (wordsOf done) s ≡ lineOf (λ c. digit done c s)
+    one : (s : ℕ) → s < 32 → laneFrom (wordsOf done) s ≡ laneOf (λ c. digit done c s)
     one s h =
         let a = word s 0 s (omega arith) (omega arith) (omega arith) in
         let b = word s 1 (32 + s) (omega arith) (omega arith) (omega arith) in
@@ -198,33 +198,33 @@ lines-of-words done = tabulate-ext 32 (lineFrom (wordsOf done)) (λ s. lineOf (�
         ap (λ ws. record { words = ws }) (cc (four (λ i. wordFrom 64 (i * 64) (λ c. digit done c s))))
 
 -- those of no cycle, as a refusal has them
-pub lines-none : linesOf [] ≡ replicate 32 (record { words = replicate 4 0 })
-lines-none = tabulate-ext 32 (λ s. lineOf (λ c. false)) (λ s. record { words = replicate 4 0 }) (λ s h. line-none) ∙ sym (replicate-tabulate 32 0 (record { words = replicate 4 0 }))
+pub lanes-none : lanesOf [] ≡ replicate 32 (record { words = replicate 4 0 })
+lanes-none = tabulate-ext 32 (λ s. laneOf (λ c. false)) (λ s. record { words = replicate 4 0 }) (λ s h. lane-none) ∙ sym (replicate-tabulate 32 0 (record { words = replicate 4 0 }))
 
 -- the loop that makes them: the first s are made
-pub record LinesAt (words : List ℕ) (s : ℕ) (lines : List Line) : Type 0 where
+pub record LanesAt (words : List ℕ) (s : ℕ) (lanes : List Lane) : Type 0 where
   pub within : s ≤ 32
-  pub long : length lines ≡ 32
-  pub made : (i : ℕ) → i < s → getD lines i (record { words = [] }) ≡ lineFrom words i
+  pub long : length lanes ≡ 32
+  pub made : (i : ℕ) → i < s → getD lanes i (record { words = [] }) ≡ laneFrom words i
 
-pub lines-start : {words : List ℕ} → LinesAt words 0 (replicate 32 (record { words = replicate 4 0 }))
-lines-start = record { within = omega arith; long = length-replicate {A = Line} 32 (record { words = replicate 4 0 }); made = λ i h. absurd (omega arith) }
+pub lanes-start : {words : List ℕ} → LanesAt words 0 (replicate 32 (record { words = replicate 4 0 }))
+lanes-start = record { within = omega arith; long = length-replicate {A = Lane} 32 (record { words = replicate 4 0 }); made = λ i h. absurd (omega arith) }
 
-module _ {words : List ℕ} {s : ℕ} {lines : List Line} (inv : LinesAt words s lines) where
-  pub lines-more : {after : List Line} → s < 32 → after ≡ set lines s (lineFrom words s) → LinesAt words (s + 1) after
-  lines-more {after} h a =
+module _ {words : List ℕ} {s : ℕ} {lanes : List Lane} (inv : LanesAt words s lanes) where
+  pub lanes-more : {after : List Lane} → s < 32 → after ≡ set lanes s (laneFrom words s) → LanesAt words (s + 1) after
+  lanes-more {after} h a =
       record {
         within = omega arith;
-        long = ap length a ∙ (length-set lines s (lineFrom words s) ∙ inv .long);
+        long = ap length a ∙ (length-set lanes s (laneFrom words s) ∙ inv .long);
         made = λ i l. rw a (at i l (ℕ-discrete i s));
       }
     where
-      at : (i : ℕ) → i < s + 1 → Dec (i ≡ s) → getD (set lines s (lineFrom words s)) i (record { words = [] }) ≡ lineFrom words i
-      at i l (yes e) = rw e (getD-set-same lines s (lineFrom words s) (record { words = [] }) (omega (arith, inv .long)))
-      at i l (no n) = getD-set-other lines s i (lineFrom words s) (record { words = [] }) n ∙ inv .made i (omega arith)
+      at : (i : ℕ) → i < s + 1 → Dec (i ≡ s) → getD (set lanes s (laneFrom words s)) i (record { words = [] }) ≡ laneFrom words i
+      at i l (yes e) = rw e (getD-set-same lanes s (laneFrom words s) (record { words = [] }) (omega (arith, inv .long)))
+      at i l (no n) = getD-set-other lanes s i (laneFrom words s) (record { words = [] }) n ∙ inv .made i (omega arith)
 
-  pub lines-end : 32 ≤ s → lines ≡ linesFrom words
-  unfolding linesFrom
-  lines-end h =
-      ext-getD (record { words = [] }) lines (tabulate 32 (lineFrom words)) (inv .long ∙ sym (length-tabulate 32 0 (lineFrom words)))
-      (λ i l. inv .made i (omega (arith, inv .long)) ∙ sym (getD-tabulate 32 (lineFrom words) i (record { words = [] }) (omega (arith, inv .long))))
+  pub lanes-end : 32 ≤ s → lanes ≡ lanesFrom words
+  unfolding lanesFrom
+  lanes-end h =
+      ext-getD (record { words = [] }) lanes (tabulate 32 (laneFrom words)) (inv .long ∙ sym (length-tabulate 32 0 (laneFrom words)))
+      (λ i l. inv .made i (omega (arith, inv .long)) ∙ sym (getD-tabulate 32 (laneFrom words) i (record { words = [] }) (omega (arith, inv .long))))

@@ -8,7 +8,7 @@ use native.Mathlib.Omega.{arith}
 use lib.ListN.{length, drop, replicate, length-drop}
 use Rattle.tables.specs.declared.refusal.Reason.the-variants.{WrongForm}
 use Rattle.tables.specs.declared.trace.Ending.{Ending}
-use Rattle.tables.specs.declared.trace.Line.{Line}
+use Rattle.tables.specs.declared.trace.Lane.{Lane}
 use Rattle.text.specs.Search.{part}
 use Rattle.text.specs.Line.{isNumbered, keyedLine}
 use Rattle.text.specs.Digits.{DigitsWithin, digitsIn, digitsForm, digitsAt}
@@ -20,10 +20,10 @@ use Rattle.text.specs.declared.digits.Digits.{Digits}
 use Rattle.text.specs.declared.digits.Digits.the-variants.{At, Wrong}
 use Rattle.text.proofs.DigitLines.{part-length, digits-within, digits-good, digits-bad}
 use Rattle.text.proofs.Bodies.{BodyAt, body-starts, body-refused, body-more, body-end, body-surplus}
-use Rattle.take_file.specs.Cycle.{RoomAt, cyclePut, linesFrom}
+use Rattle.take_file.specs.Cycle.{RoomAt, cyclePut, lanesFrom}
 use Rattle.take_file.specs.Take.{traceOf, takeAnswer}
 use Rattle.take_file.specs.declared.take.TakeAnswer.{TakeAnswer}
-use Rattle.take_file.proofs.Cycles.{wordsOf, words-none, words-room, words-more, lines-of-words}
+use Rattle.take_file.proofs.Cycles.{wordsOf, words-none, words-room, words-more, lanes-of-words}
 
 -- the reading goes on at cycle c, and the words have the cycles before
 pub record CyclesAt (signals cycles : ℕ) (body : List ℕ) (c : ℕ) (words : List ℕ) (rest : List ℕ) : Type 0 where
@@ -70,8 +70,8 @@ module _ {signals cycles : ℕ} {body : List ℕ} {c : ℕ} {words rest : List �
           }
 
   module _ (h : cycles ≤ c) where
-    pub cycles-end : (ending : Ending) {lines : List Line} → lines ≡ linesFrom words → length rest ≡ 0 → takeAnswer (accepted (record { signals = signals; cycles = cycles; ending = ending; lines = lines })) ≡ Answer signals cycles ending body
-    cycles-end ending l e = rw (body-end (inv .at) h e, l, inv .same, lines-of-words (inv .done))
+    pub cycles-end : (ending : Ending) {lanes : List Lane} → lanes ≡ lanesFrom words → length rest ≡ 0 → takeAnswer (accepted (record { signals = signals; cycles = cycles; ending = ending; lanes = lanes })) ≡ Answer signals cycles ending body
+    cycles-end ending l e = rw (body-end (inv .at) h e, l, inv .same, lanes-of-words (inv .done))
 
     pub cycles-surplus : (ending : Ending) → (length rest ≡ 0 → ⊥) → takeAnswer (refused WrongForm (c + 5)) ≡ Answer signals cycles ending body
     cycles-surplus ending n = rw (body-surplus (inv .at) h n)

@@ -9,7 +9,7 @@ use lib.ListN.{length, getD, take, drop, length-map, length-take}
 use borrow.Author.Tests.{le-ltb, ltb-false}
 use Rattle.tables.specs.Choice.{pick}
 use Rattle.tables.specs.Bytes.{bytes}
-use Rattle.tables.specs.Bit.{bitAt, lineOf}
+use Rattle.tables.specs.Bit.{bitAt, laneOf}
 use Rattle.tables.specs.declared.refusal.Reason.{Reason}
 use Rattle.tables.specs.declared.refusal.Reason.the-variants.{TooLong, WrongFormat, CountOutOfRange, BadLoop}
 use Rattle.tables.specs.declared.refusal.Refusal.{Refusal}
@@ -17,10 +17,10 @@ use Rattle.tables.specs.declared.refusal.Outcome.{Outcome}
 use Rattle.tables.specs.declared.refusal.Outcome.the-variants.{Accepted, Refused}
 use Rattle.tables.specs.declared.trace.Ending.{Ending}
 use Rattle.tables.specs.declared.trace.Ending.the-variants.{Open, Loop}
-use Rattle.tables.specs.declared.trace.Line.{Line}
+use Rattle.tables.specs.declared.trace.Lane.{Lane}
 use Rattle.tables.specs.declared.trace.Trace.{Trace}
 use Rattle.tables.proofs.Places.{length-tabulate, getD-tabulate, tabulate-ext, tabulate-getD, take-tabulate, map-tabulate}
-use Rattle.tables.proofs.Bits.{bit-of-line}
+use Rattle.tables.proofs.Bits.{bit-of-lane}
 use Rattle.text.specs.Line.{isKey, keyedLine}
 use Rattle.text.specs.Count.{countForm}
 use Rattle.text.specs.Digits.{digitsForm}
@@ -39,7 +39,7 @@ use Rattle.text.proofs.Answered.{accepted-table}
 use Rattle.text.proofs.RefusedLines.{RefusedBy, map-by, test-by, line-by, count-by, body-by, refused-line, outcome-line}
 use Rattle.text.proofs.Headers.{free, parsed-accepted, map-accepted, test-accepted, outcome-accepted, line-then, count-then, count-in, count-below, count-above, count-range}
 use Rattle.take_file.specs.Ending.{endingValue}
-use Rattle.take_file.specs.Take.{digit, linesOf, traceOf, parseTake, takeAnswer}
+use Rattle.take_file.specs.Take.{digit, lanesOf, traceOf, parseTake, takeAnswer}
 use Rattle.take_file.specs.declared.take.TakeAnswer.{TakeAnswer}
 use Rattle.take_file.specs.Written.{endingText, cyclesOf, writtenTake}
 use Rattle.take_file.specs.Valid.{Below, isBelow, InRange, Valid}
@@ -66,20 +66,20 @@ by-lines file = refl
 
 -- ---- the cycles of a table that was read
 
--- the digits of cycle k, out of the lines of the signals
+-- the digits of cycle k, out of the lanes of the signals
 cycle-of : (signals : ℕ) (cs : List (List Bool)) (k : ℕ) → signals ≤ 32 → k < 256 → length (getD cs k []) ≡ signals
-    → map (λ (l : Line). bitAt l k) (take signals (linesOf cs)) ≡ getD cs k []
+    → map (λ (l : Lane). bitAt l k) (take signals (lanesOf cs)) ≡ getD cs k []
 cycle-of signals cs k h l e =
-    ap (map (λ (l : Line). bitAt l k)) (take-tabulate signals 32 (λ s. lineOf (λ c. digit cs c s)) h)
-    ∙ (map-tabulate (λ (l : Line). bitAt l k) signals (λ s. lineOf (λ c. digit cs c s))
-    ∙ (tabulate-ext signals (λ s. bitAt (lineOf (λ c. digit cs c s)) k) (λ s. digit cs k s) (λ s m. bit-of-line (λ c. digit cs c s) k l)
+    ap (map (λ (l : Lane). bitAt l k)) (take-tabulate signals 32 (λ s. laneOf (λ c. digit cs c s)) h)
+    ∙ (map-tabulate (λ (l : Lane). bitAt l k) signals (λ s. laneOf (λ c. digit cs c s))
+    ∙ (tabulate-ext signals (λ s. bitAt (laneOf (λ c. digit cs c s)) k) (λ s. digit cs k s) (λ s m. bit-of-lane (λ c. digit cs c s) k l)
     ∙ tabulate-getD (getD cs k []) signals false e))
 
 cycles-of : (signals cycles : ℕ) (ending : Ending) (cs : List (List Bool)) → signals ≤ 32 → cycles ≤ 256 → length cs ≡ cycles
     → ((k : ℕ) → k < length cs → length (getD cs k []) ≡ signals) → cyclesOf (traceOf signals cycles ending cs) ≡ cs
 cycles-of signals cycles ending cs h l e each =
     let m : min cycles 256 ≡ cycles = omega arith in
-    rw m (tabulate-ext cycles (λ c. map (λ (l : Line). bitAt l c) (take signals (linesOf cs))) (λ c. getD cs c []) (λ k n. cycle-of signals cs k h (omega arith) (each k (omega arith)))
+    rw m (tabulate-ext cycles (λ c. map (λ (l : Lane). bitAt l c) (take signals (lanesOf cs))) (λ c. getD cs c []) (λ k n. cycle-of signals cs k h (omega arith) (each k (omega arith)))
     ∙ tabulate-getD cs cycles [] e)
 
 -- what is known of a trace once its header is read
@@ -104,7 +104,7 @@ module _ (signals cycles : ℕ) (ending : Ending) (some-s : 1 ≤ signals) (most
             w ∙ ap (writtenBody 99 digitsText 0) (sym c),
             record {
               range = record { some-signals = some-s; most-signals = most-s; some-cycles = some-c; most-cycles = most-c; loop = loop };
-              unused = ap linesOf (sym c);
+              unused = ap lanesOf (sym c);
             },
           )
 
@@ -160,15 +160,15 @@ ending-step signals cycles ending body =
     line-step (bytes "loop") (endingText ending) body (free 10 (bytes "loop") refl) (free 61 (bytes "loop") refl) (ending-free ending)
     (isKey (bytes "loop")) (endingValue cycles) 4 (FromBody signals cycles) (same-refl (bytes "loop"))
 
-module _ (t : Trace) (full : length (t .lines) ≡ 32) where
+module _ (t : Trace) (full : length (t .lanes) ≡ 32) where
   digits-length : (k : ℕ) → k < length (cyclesOf t) → length (getD (cyclesOf t) k []) ≡ min (t .signals) 32
   digits-length k h =
-      let f : ℕ → List Bool = λ c. map (λ (l : Line). bitAt l c) (take (t .signals) (t .lines)) in
+      let f : ℕ → List Bool = λ c. map (λ (l : Lane). bitAt l c) (take (t .signals) (t .lanes)) in
       let n : k < min (t .cycles) 256 = rw length-tabulate at h in
-      ap length (getD-tabulate (min (t .cycles) 256) f k [] n) ∙ (length-map (take (t .signals) (t .lines)) (λ (l : Line). bitAt l k) ∙ (length-take (t .signals) (t .lines) ∙ rw full))
+      ap length (getD-tabulate (min (t .cycles) 256) f k [] n) ∙ (length-map (take (t .signals) (t .lanes)) (λ (l : Lane). bitAt l k) ∙ (length-take (t .signals) (t .lanes) ∙ rw full))
 
   cycles-length : length (cyclesOf t) ≡ min (t .cycles) 256
-  cycles-length = length-tabulate (min (t .cycles) 256) 0 (λ c. map (λ (l : Line). bitAt l c) (take (t .signals) (t .lines)))
+  cycles-length = length-tabulate (min (t .cycles) 256) 0 (λ c. map (λ (l : Lane). bitAt l c) (take (t .signals) (t .lanes)))
 
   short : length (writtenTake t) ≤ 65536
   short =
@@ -229,9 +229,9 @@ module _ (t : Trace) (full : length (t .lines) ≡ 32) where
 -- A TRACE THAT IS WRITTEN IS READ BACK
 pub take-written : (t : Trace) → Valid t → parseTake (writtenTake t) ≡ accepted t
 take-written t v =
-    let full : length (t .lines) ≡ 32 = ap length (v .unused) ∙ length-tabulate 32 0 (λ s. lineOf (λ c. digit (cyclesOf t) c s)) in
+    let full : length (t .lanes) ≡ 32 = ap length (v .unused) ∙ length-tabulate 32 0 (λ s. laneOf (λ c. digit (cyclesOf t) c s)) in
     in-range t full (v .range .some-signals) (v .range .most-signals) (v .range .some-cycles) (v .range .most-cycles) (v .range .loop)
-    ∙ ap (λ ls. accepted (record { signals = t .signals; cycles = t .cycles; ending = t .ending; lines = ls })) (sym (v .unused))
+    ∙ ap (λ ls. accepted (record { signals = t .signals; cycles = t .cycles; ending = t .ending; lanes = ls })) (sym (v .unused))
 
 -- TWO FILES THAT YIELD ONE TABLE ARE THE SAME
 pub take-once : (a b : List ℕ) (t : Trace) → parseTake a ≡ accepted t → parseTake b ≡ accepted t → a ≡ b
@@ -265,7 +265,7 @@ pub told : (t : Trace) {r : Outcome} → r ≡ outcomeOf 2 (parseTake (writtenTa
 told t e = (e, λ q. checked t (know e q))
 
 -- and a trace in range passes it
-pub checked-all : (t : Trace) → length (t .lines) ≡ 32 → InRange t → outcomeOf 2 (parseTake (writtenTake t)) ≡ Accepted
+pub checked-all : (t : Trace) → length (t .lanes) ≡ 32 → InRange t → outcomeOf 2 (parseTake (writtenTake t)) ≡ Accepted
 checked-all t full r = ap (outcomeOf 2) (in-range t full (r .some-signals) (r .most-signals) (r .some-cycles) (r .most-cycles) (r .loop))
 
 -- ---- the line of a refusal: four lines of the header, up to 256 cycles, and the line behind them

@@ -6,7 +6,7 @@ use lib.Dec.{eqb}
 use lib.ListN.{length, getD}
 use Rattle.tables.specs.Choice.{pick}
 use Rattle.tables.specs.Place.{tabulate}
-use Rattle.tables.specs.declared.trace.Line.{Line}
+use Rattle.tables.specs.declared.trace.Lane.{Lane}
 
 -- what a cycle adds to word i: its bit, where the word has its cycle and the digit of the word's signal is 1 (byte 49)
 abbrev pub added : List ℕ → ℕ → ℕ → ℕ
@@ -23,9 +23,9 @@ pub record RoomAt (words : List ℕ) (value : List ℕ) (cycle : ℕ) : Type 0 w
   pub cycles : cycle < 256
   pub unset : (i : ℕ) → i < 128 → i / 32 ≡ cycle / 64 → getD words i 0 + 2 ^ (cycle % 64) < 2 ^ 64
 
--- the line of each signal, from its four words
-abbrev pub lineFrom : List ℕ → ℕ → Line
-lineFrom words s = record { words = getD words s 0 ∷ getD words (32 + s) 0 ∷ getD words (64 + s) 0 ∷ getD words (96 + s) 0 ∷ [] }
+-- the lane of each signal, from its four words
+abbrev pub laneFrom : List ℕ → ℕ → Lane
+laneFrom words s = record { words = getD words s 0 ∷ getD words (32 + s) 0 ∷ getD words (64 + s) 0 ∷ getD words (96 + s) 0 ∷ [] }
 
-unfoldable pub linesFrom : List ℕ → List Line
-linesFrom words = tabulate 32 (lineFrom words)
+unfoldable pub lanesFrom : List ℕ → List Lane
+lanesFrom words = tabulate 32 (laneFrom words)

@@ -8,10 +8,10 @@ use Rattle.tables.specs.Refusal.{numbered}
 use Rattle.tables.specs.Choice.{pick}
 use Rattle.tables.specs.Bytes.{bytes}
 use Rattle.tables.specs.Place.{tabulate}
-use Rattle.tables.specs.Bit.{lineOf}
+use Rattle.tables.specs.Bit.{laneOf}
 use Rattle.tables.specs.declared.trace.Ending.{Ending}
 use Rattle.tables.specs.declared.trace.Ending.the-variants.{Open}
-use Rattle.tables.specs.declared.trace.Line.{Line}
+use Rattle.tables.specs.declared.trace.Lane.{Lane}
 use Rattle.tables.specs.declared.trace.Trace.{Trace}
 use Rattle.text.specs.Line.{isKey, keyedLine}
 use Rattle.text.specs.Count.{countForm}
@@ -26,13 +26,13 @@ use Rattle.take_file.specs.declared.take.TakeAnswer.{TakeAnswer}
 abbrev pub digit : List (List Bool) → ℕ → ℕ → Bool
 digit cycles c s = getD (getD cycles c []) s false
 
--- a line for each signal: at cycle c it has that signal's digit
-abbrev pub linesOf : List (List Bool) → List Line
-linesOf cycles = tabulate 32 (λ s. lineOf (λ c. digit cycles c s))
+-- a lane for each signal: at cycle c it has that signal's digit
+abbrev pub lanesOf : List (List Bool) → List Lane
+lanesOf cycles = tabulate 32 (λ s. laneOf (λ c. digit cycles c s))
 
--- what a take file stands for: its counts, its ending, and its cycles as lines
+-- what a take file stands for: its counts, its ending, and its cycles as lanes
 abbrev pub traceOf : ℕ → ℕ → Ending → List (List Bool) → Trace
-traceOf signals cycles ending cs = record { signals = signals; cycles = cycles; ending = ending; lines = linesOf cs }
+traceOf signals cycles ending cs = record { signals = signals; cycles = cycles; ending = ending; lanes = lanesOf cs }
 
 -- "Take file: `format=1`, `signals=` (1 to 32 as well), `cycles=` (1 to 256), `loop=`, then `c0=` onward, one digit 0 or 1 per
 -- signal, signal 1 first"; 99 is the letter c. "The file is longer than 65,536 bytes" is refused at line 0.

@@ -6,7 +6,7 @@ use lib.Dec.{ltb}
 use Rattle.tables.specs.declared.trace.Ending.{Ending}
 use Rattle.tables.specs.declared.trace.Ending.the-variants.{Open, Loop}
 use Rattle.tables.specs.declared.trace.Trace.{Trace}
-use Rattle.take_file.specs.Take.{linesOf}
+use Rattle.take_file.specs.Take.{lanesOf}
 use Rattle.take_file.specs.Written.{cyclesOf}
 
 -- "`none`, or the cycle where the loop begins, from 0 to cycles less 1"
@@ -27,7 +27,7 @@ pub record InRange (t : Trace) : Type 0 where
   pub most-cycles : t .cycles ≤ 256
   pub loop : Below (t .cycles) (t .ending)
 
--- in range, and its lines are those of its cycles: every bit that is not used is 0
+-- in range, and its lanes are those of its cycles: every bit that is not used is 0
 pub record Valid (t : Trace) : Type 0 where
   pub range : InRange t
-  pub unused : t .lines ≡ linesOf (cyclesOf t)
+  pub unused : t .lanes ≡ lanesOf (cyclesOf t)

@@ -8,7 +8,7 @@ use Rattle.tables.specs.Place.{tabulate}
 use Rattle.tables.specs.Bit.{bitAt}
 use Rattle.tables.specs.declared.trace.Ending.{Ending}
 use Rattle.tables.specs.declared.trace.Ending.the-variants.{Open, Loop}
-use Rattle.tables.specs.declared.trace.Line.{Line}
+use Rattle.tables.specs.declared.trace.Lane.{Lane}
 use Rattle.tables.specs.declared.trace.Trace.{Trace}
 use Rattle.text.specs.Written.{decimal, writtenLine, writtenBody, digitsText}
 
@@ -19,7 +19,7 @@ endingText (Loop n) = decimal n
 
 -- the digits of each cycle. "Unused places are not written": a trace has places for 256 cycles and 32 signals.
 abbrev pub cyclesOf : Trace → List (List Bool)
-cyclesOf t = tabulate (min (t .cycles) 256) (λ c. map (λ (l : Line). bitAt l c) (take (t .signals) (t .lines)))
+cyclesOf t = tabulate (min (t .cycles) 256) (λ c. map (λ (l : Lane). bitAt l c) (take (t .signals) (t .lanes)))
 
 -- "A table handed to a service is checked as if written out as its file"
 unfoldable pub writtenTake : Trace → List ℕ

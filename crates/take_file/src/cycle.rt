@@ -3,8 +3,8 @@ ghost use mathlib.Core.Path.{_≡_};
 ghost use Prim.Native.Nat.{_^_, _<_};
 ghost use lib.Dec.{eqb};
 ghost use Rattle.tables.specs.Choice.{pick};
-ghost use Rattle.take_file.specs.Cycle.{RoomAt, cyclePut, linesFrom};
-use tables::trace::Line;
+ghost use Rattle.take_file.specs.Cycle.{RoomAt, cyclePut, lanesFrom};
+use tables::trace::Lane;
 
 fn power_of_two(k: usize) -> u64
     requires { ⌜ k < 64 ⌝ }
@@ -36,17 +36,17 @@ pub fn put_cycle(words: &mut [u64; 128], value: &[u8], cycle: usize)
     }
 }
 
-// The lines of the signals, from their words.
-pub fn lines_from(words: [u64; 128]) -> [Line; 32]
-    ensures { λ r. ⌜ r ≡ linesFrom words ⌝ }
+// The lanes of the signals, from their words.
+pub fn lanes_from(words: [u64; 128]) -> [Lane; 32]
+    ensures { λ r. ⌜ r ≡ lanesFrom words ⌝ }
 {
-    let mut lines = [Line { words: [0; 4] }; 32];
+    let mut lanes = [Lane { words: [0; 4] }; 32];
     let mut s = 0;
     while s < 32 {
-        lines[s] = Line {
+        lanes[s] = Lane {
             words: [words[s], words[32 + s], words[64 + s], words[96 + s]],
         };
         s += 1;
     }
-    lines
+    lanes
 }

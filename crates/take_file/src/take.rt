@@ -11,7 +11,7 @@ use tables::refusal::Outcome;
 use tables::refusal::Reason;
 use tables::refusal::Refusal;
 use tables::trace::Ending;
-use tables::trace::Line;
+use tables::trace::Lane;
 use tables::trace::Trace;
 use text::digits::Digits;
 use text::line::Counted;
@@ -26,7 +26,7 @@ pub struct TakeAnswer {
 fn refuse(reason: Reason, line: usize) -> TakeAnswer
     ensures { λ r. ⌜ r ≡ takeAnswer (refused reason line) ⌝ }
 {
-    let lines = [Line { words: [0; 4] }; 32];
+    let lanes = [Lane { words: [0; 4] }; 32];
     TakeAnswer {
         outcome: Outcome::Refused(Refusal {
             reason,
@@ -37,7 +37,7 @@ fn refuse(reason: Reason, line: usize) -> TakeAnswer
             signals: 0,
             cycles: 0,
             ending: Ending::Open,
-            lines,
+            lanes,
         },
     }
 }
@@ -62,14 +62,14 @@ fn read_cycles(body: &[u8], signals: usize, cycles: usize, ending: Ending) -> Ta
     if rest.len() != 0 {
         return refuse(Reason::WrongForm, c + 5);
     }
-    let lines = crate::cycle::lines_from(words);
+    let lanes = crate::cycle::lanes_from(words);
     TakeAnswer {
         outcome: Outcome::Accepted,
         trace: Trace {
             signals: signals as u8,
             cycles: cycles as u16,
             ending,
-            lines,
+            lanes,
         },
     }
 }

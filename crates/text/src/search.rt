@@ -23,7 +23,7 @@ pub fn find(s: &[u8], b: u8) -> Found
     Found::Nothing
 }
 
-// Whether two runs of bytes are the same.
+// Whether two byte strings are the same.
 pub fn same(a: &[u8], b: &[u8]) -> bool
     ensures { λ r. ⌜ r ≡ sameBytes (now (a .entry)) (now (b .entry)) ⌝ }
 {

@@ -1,4 +1,4 @@
--- The lines of all rows, one after the other, and that they tell the truth. Assumes nothing.
+-- The lanes of all rows, one after the other, and that they tell the truth. Assumes nothing.
 use Prim.Native.Nat.{ℕ, suc, _+_, _-_, _≤_, _<_}
 use mathlib.Core.Path.{_≡_, sym, ap, subst, _∙_}
 use mathlib.Core.Logic.{_↔_}
@@ -13,7 +13,7 @@ use Rattle.tables.specs.declared.row.Row.{Row}
 use Rattle.tables.specs.declared.row.NormalForm.{NormalForm}
 use Rattle.tables.specs.declared.trace.Ending.{Ending}
 use Rattle.tables.specs.declared.trace.Ending.the-variants.{Open, Loop}
-use Rattle.tables.specs.declared.trace.Line.{Line}
+use Rattle.tables.specs.declared.trace.Lane.{Lane}
 use Rattle.tables.specs.declared.trace.Trace.{Trace}
 use Rattle.take_file.specs.Valid.{Below as LoopBelow}
 use Rattle.meaning.specs.Reading.{classical}
@@ -30,11 +30,11 @@ use Rattle.meaning.proofs.StrongTruth.{cyclesBelow}
 use Rattle.meaning.proofs.Prefix.{prefix, toEnd, prefix-truth}
 use Rattle.normal_form.specs.Form.{InNormalForm}
 use Rattle.normal_form.proofs.FormTables.{form-ordered, form-positive}
-use Rattle.lines.specs.Word.{Ends}
-use Rattle.row_lines.specs.Run.{Shows}
-use Rattle.row_lines.specs.Pass.{rowPass}
-use Rattle.truth.specs.Truth.{lineIn, TrueIn, Tells}
-use Rattle.row_lines.proofs.Passes.{shows-alike}
+use Rattle.lanes.specs.Word.{Ends}
+use Rattle.row_lanes.specs.Span.{Shows}
+use Rattle.row_lanes.specs.Pass.{rowPass}
+use Rattle.truth.specs.Truth.{laneIn, TrueIn, Tells}
+use Rattle.row_lanes.proofs.Passes.{shows-alike}
 use Rattle.truth.proofs.Matches.{row-lasso, row-prefix}
 
 module _ (n : ℕ) (ending : Ending) (signals : ℕ → ℕ → Bool) (t : Table) (m : ℕ) where
@@ -42,42 +42,42 @@ module _ (n : ℕ) (ending : Ending) (signals : ℕ → ℕ → Bool) (t : Table
   abbrev pub Found : (ℕ → ℕ → Bool) → Type 0
   Found bits = (k : ℕ) → k < m → (c : ℕ) → c < n → bits k c ≡ rowPass n ending signals bits (t k) c
 
-  -- the lines of the first k rows are filled
-  pub record FilledTo (k : ℕ) (lines : List Line) : Type 0 where
-    pub size : length lines ≡ 128
-    pub shown : (bits : ℕ → ℕ → Bool) → Found bits → (j : ℕ) → j < k → Shows n (lineIn lines j) (bits (suc j))
+  -- the lanes of the first k rows are filled
+  pub record FilledTo (k : ℕ) (lanes : List Lane) : Type 0 where
+    pub size : length lanes ≡ 128
+    pub shown : (bits : ℕ → ℕ → Bool) → Found bits → (j : ℕ) → j < k → Shows n (laneIn lanes j) (bits (suc j))
 
-  pub fill-none : (lines : List Line) → length lines ≡ 128 → FilledTo 0 lines
-  fill-none lines e = record { size = e; shown = λ bits f j h. absurd (omega arith) }
+  pub fill-none : (lanes : List Lane) → length lanes ≡ 128 → FilledTo 0 lanes
+  fill-none lanes e = record { size = e; shown = λ bits f j h. absurd (omega arith) }
 
   pub fill-next :
-      {k : ℕ} {lines : List Line} (line : Line) → k < 128 → suc k < m → FilledTo k lines
-      → ((bits : ℕ → ℕ → Bool) → Found bits → Shows n line (rowPass n ending signals bits (t (suc k)))) → FilledTo (k + 1) (set lines k line)
-  fill-next {k} {lines} line most h filled new = record { size = length-set lines k line ∙ filled .size; shown = λ bits f j l. by bits f j l (ℕ-discrete j k) }
+      {k : ℕ} {lanes : List Lane} (lane : Lane) → k < 128 → suc k < m → FilledTo k lanes
+      → ((bits : ℕ → ℕ → Bool) → Found bits → Shows n lane (rowPass n ending signals bits (t (suc k)))) → FilledTo (k + 1) (set lanes k lane)
+  fill-next {k} {lanes} lane most h filled new = record { size = length-set lanes k lane ∙ filled .size; shown = λ bits f j l. by bits f j l (ℕ-discrete j k) }
     where
-      by : (bits : ℕ → ℕ → Bool) → Found bits → (j : ℕ) → j < k + 1 → Dec (j ≡ k) → Shows n (lineIn (set lines k line) j) (bits (suc j))
+      by : (bits : ℕ → ℕ → Bool) → Found bits → (j : ℕ) → j < k + 1 → Dec (j ≡ k) → Shows n (laneIn (set lanes k lane) j) (bits (suc j))
       by bits f j l (yes e) =
-          let s : Shows n line (bits (suc k)) = new bits f ∙ shows-alike n _ _ (λ c b. sym (f (suc k) h c b)) in
-          rw e (getD-set-same lines k line (record { words = [] }) (omega (arith, filled .size)) ∙ s)
-      by bits f j l (no e) = getD-set-other lines k j line (record { words = [] }) e ∙ filled .shown bits f j (omega arith)
+          let s : Shows n lane (bits (suc k)) = new bits f ∙ shows-alike n _ _ (λ c b. sym (f (suc k) h c b)) in
+          rw e (getD-set-same lanes k lane (record { words = [] }) (omega (arith, filled .size)) ∙ s)
+      by bits f j l (no e) = getD-set-other lanes k j lane (record { words = [] }) e ∙ filled .shown bits f j (omega arith)
 
-  -- the operands' lines are there
+  -- the operands' lanes are there
   pub earlier-shown :
-      {k : ℕ} {lines : List Line} → FilledTo k lines → (bits : ℕ → ℕ → Bool) → Found bits → (r : Row) → Each (λ a. (1 ≤ a) × (a < suc k)) r
-      → Each (λ a. Shows n (lineIn lines (a - 1)) (bits a)) r
-  earlier-shown {k} {lines} filled bits f r below = each-map _ _ (λ a x. let e : suc (a - 1) ≡ a = omega (arith, x .0) in rw e at (filled .shown bits f (a - 1) (omega (arith, x .0, x .1)))) r below
+      {k : ℕ} {lanes : List Lane} → FilledTo k lanes → (bits : ℕ → ℕ → Bool) → Found bits → (r : Row) → Each (λ a. (1 ≤ a) × (a < suc k)) r
+      → Each (λ a. Shows n (laneIn lanes (a - 1)) (bits a)) r
+  earlier-shown {k} {lanes} filled bits f r below = each-map _ _ (λ a x. let e : suc (a - 1) ≡ a = omega (arith, x .0) in rw e at (filled .shown bits f (a - 1) (omega (arith, x .0, x .1)))) r below
 
-  pub fill-enough : {k j : ℕ} {lines : List Line} → j ≤ k → FilledTo k lines → FilledTo j lines
+  pub fill-enough : {k j : ℕ} {lanes : List Lane} → j ≤ k → FilledTo k lanes → FilledTo j lanes
   fill-enough h filled = record { size = filled .size; shown = λ bits f i l. filled .shown bits f i (omega arith) }
 
 pub loop-further : (ending : Ending) (n m : ℕ) → n ≤ m → LoopBelow n ending → LoopBelow m ending
 loop-further Open n m h b = tt
 loop-further (Loop l) n m h b = omega arith
 
--- the line of a row, from what its kind's line shows
-module _ (n : ℕ) (ending : Ending) (signals bits : ℕ → ℕ → Bool) {line found : Line} (e : line ≡ found) where
-  pub row-shown : {r s : Row} → r ≡ s → Shows n found (rowPass n ending signals bits s) → Shows n line (rowPass n ending signals bits r)
-  row-shown {r} {s} q x = subst (λ y. Shows n line (rowPass n ending signals bits y)) (sym q) (e ∙ x)
+-- the lane of a row, from what its kind's lane shows
+module _ (n : ℕ) (ending : Ending) (signals bits : ℕ → ℕ → Bool) {lane found : Lane} (e : lane ≡ found) where
+  pub row-shown : {r s : Row} → r ≡ s → Shows n found (rowPass n ending signals bits s) → Shows n lane (rowPass n ending signals bits r)
+  row-shown {r} {s} q x = subst (λ y. Shows n lane (rowPass n ending signals bits y)) (sym q) (e ∙ x)
 
 -- the bits computed to the end of a prefix end with it
 prefix-bits-end : (n : ℕ) (w : InfiniteTrace) (t : Table) (k : ℕ) → Ends n (bitsOf (cyclesBelow n) (prefix n w) (toEnd n w) t k)
@@ -122,8 +122,8 @@ module _ (g : NormalForm) (t : Trace) (ok : InNormalForm g) where
 
   -- ALL ROWS FILLED, EACH LINE TELLS WHERE ITS ROW IS TRUE
   pub filled-tells :
-      (ending : Ending) → LoopBelow (t .cycles) ending → (lines : List Line) → FilledTo (t .cycles) ending (signalAt t) (tableOf (g .places)) (suc (g .rows)) (g .rows) lines
-      → (k : ℕ) → k < g .rows → Tells (t .cycles) (lineIn lines k) (TrueIn g t ending (suc k))
-  filled-tells ending below lines filled k h =
+      (ending : Ending) → LoopBelow (t .cycles) ending → (lanes : List Lane) → FilledTo (t .cycles) ending (signalAt t) (tableOf (g .places)) (suc (g .rows)) (g .rows) lanes
+      → (k : ℕ) → k < g .rows → Tells (t .cycles) (laneIn lanes k) (TrueIn g t ending (suc k))
+  filled-tells ending below lanes filled k h =
       let x = told-bits ending below in
       (x .0 (suc k), filled .shown (x .0) (x .1 .found) k h, x .1 .told (suc k) (omega arith))

@@ -22,8 +22,8 @@ use Rattle.meaning.proofs.Pattern.{Pattern, Pattern.now, Pattern.next, Pattern.
 use Rattle.meaning.proofs.PatternBits.{connectiveBit, keepBits, goalBits, patternBit, signedBit, rowBit, operandBits}
 use Rattle.meaning.proofs.Lasso.{twoRounds, two-passes, lasso}
 use Rattle.meaning.proofs.Prefix.{prefix, toEnd}
-use Rattle.lines.specs.Word.{Ends}
-use Rattle.row_lines.specs.Pass.{untilPass, passBit, rowPass}
+use Rattle.lanes.specs.Word.{Ends}
+use Rattle.row_lanes.specs.Pass.{untilPass, passBit, rowPass}
 
 -- ---- on a lasso
 

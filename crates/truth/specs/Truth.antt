@@ -1,4 +1,4 @@
--- When a row is true at a cycle of a recording, and lines that tell so. Assumes nothing.
+-- When a row is true at a cycle of a recording, and lanes that tell so. Assumes nothing.
 use Prim.Native.Nat.{ℕ, suc, _-_, _<_}
 use mathlib.Core.Path.{_≡_}
 use mathlib.Core.Logic.{_↔_}
@@ -9,21 +9,21 @@ use Rattle.tables.specs.Bit.{bitAt}
 use Rattle.tables.specs.declared.row.NormalForm.{NormalForm}
 use Rattle.tables.specs.declared.trace.Ending.{Ending}
 use Rattle.tables.specs.declared.trace.Ending.the-variants.{Open, Loop}
-use Rattle.tables.specs.declared.trace.Line.{Line}
+use Rattle.tables.specs.declared.trace.Lane.{Lane}
 use Rattle.tables.specs.declared.trace.Trace.{Trace}
 use Rattle.meaning.specs.Reading.{classical}
 use Rattle.meaning.specs.Trace.{signalAt, unrolled}
 use Rattle.meaning.specs.Satisfaction.{tableOf, RowTrue}
 use Rattle.meaning.specs.Strong.{RowStronglyTrue}
-use Rattle.row_lines.specs.Run.{Shows}
+use Rattle.row_lanes.specs.Span.{Shows}
 
--- line k of a list of lines; what a place behind it would hold
-abbrev pub lineIn : List Line → ℕ → Line
-lineIn lines k = getD lines k (record { words = [] })
+-- lane k of a list of lanes; what a place behind it would hold
+abbrev pub laneIn : List Lane → ℕ → Lane
+laneIn lanes k = getD lanes k (record { words = [] })
 
--- the bits of lines by cycle and number, which counts from 1
-abbrev pub bitIn : List Line → ℕ → ℕ → Bool
-bitIn lines c a = bitAt (lineIn lines (a - 1)) c
+-- the bits of lanes by cycle and number, which counts from 1
+abbrev pub bitIn : List Lane → ℕ → ℕ → Bool
+bitIn lanes c a = bitAt (laneIn lanes (a - 1)) c
 
 -- row k is true at cycle c "(strongly, for an open take)": of a looped take at cycle c of its endless repetition
 abbrev pub TrueIn : NormalForm → Trace → Ending → ℕ → ℕ → Type 0
@@ -33,10 +33,10 @@ TrueIn g t (Loop l) k c = RowTrue classical (unrolled t l) (tableOf (g .places))
 abbrev pub TrueAt : NormalForm → Trace → ℕ → ℕ → Type 0
 TrueAt g t k c = TrueIn g t (t .ending) k c
 
--- a line has a 1 at exactly those of the first n cycles at which P holds
-abbrev pub Tells : ℕ → Line → (ℕ → Type 0) → Type 0
-Tells n line P = (f : ℕ → Bool) × Shows n line f × ((c : ℕ) → c < n → P c ↔ (f c ≡ true))
+-- a lane has a 1 at exactly those of the first n cycles at which P holds
+abbrev pub Tells : ℕ → Lane → (ℕ → Type 0) → Type 0
+Tells n lane P = (f : ℕ → Bool) × Shows n lane f × ((c : ℕ) → c < n → P c ↔ (f c ≡ true))
 
--- each row's line tells where it is true
-abbrev pub Filled : NormalForm → Trace → List Line → Type 0
-Filled g t lines = (k : ℕ) → k < g .rows → Tells (t .cycles) (lineIn lines k) (TrueAt g t (suc k))
+-- each row's lane tells where it is true
+abbrev pub Filled : NormalForm → Trace → List Lane → Type 0
+Filled g t lanes = (k : ℕ) → k < g .rows → Tells (t .cycles) (laneIn lanes k) (TrueAt g t (suc k))

@@ -1,15 +1,15 @@
 // Tries all sheets of at most 12 digits for each pair of a rule file and a take file that its arguments name: prints the names, the
 // verdict, and how many sheets pass the check.
+use checking::finding::CheckAnswer;
+use checking::finding::Finding;
 use judging::verdict::Answer;
 use judging::verdict::Verdict;
 use normal_form::sign::Sign;
-use sheet_check::finding::CheckAnswer;
-use sheet_check::finding::Finding;
 use tables::refusal::Outcome;
 use tables::row::Formula;
 use tables::trace::Activation;
 use tables::trace::Ending;
-use tables::trace::Line;
+use tables::trace::Lane;
 use tables::trace::Trace;
 ghost use Prim.Native.Nat.{_≤_, _<_};
 
@@ -26,11 +26,11 @@ fn sheet_of(rows: u8, cycles: u16, number: u64) -> Activation
 {
     let size = power_of_two(cycles as usize);
     let count = rows as usize;
-    let mut lines = [Line { words: [0; 4] }; 128];
+    let mut lanes = [Lane { words: [0; 4] }; 128];
     let mut rest = number;
     let mut k = 0;
     while k < count {
-        lines[k] = Line {
+        lanes[k] = Lane {
             words: [rest % size, 0, 0, 0],
         };
         rest = rest / size;
@@ -39,7 +39,7 @@ fn sheet_of(rows: u8, cycles: u16, number: u64) -> Activation
     Activation {
         rows,
         cycles,
-        lines,
+        lanes,
     }
 }
 
@@ -65,7 +65,7 @@ fn count_passing(formula: Formula, trace: Trace, rows: u8, end: u64) -> u64
     let mut number = 0;
     while number < end {
         let sheet = sheet_of(rows, trace.cycles, number);
-        let answer = sheet_check::check_sheet(formula, trace, sheet);
+        let answer = checking::check_sheet(formula, trace, sheet);
         count += passes(answer);
         number += 1;
     }

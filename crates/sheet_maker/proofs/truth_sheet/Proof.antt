@@ -13,7 +13,7 @@ fill-requires : tie.Need-fill-requires
 fill-requires c κs = (rw (c .normal-form .ensures) (form-normal (c .before .args .formula) Plain (c .before .pre .0)), c .before .pre .1)
 
 returns : tie.Need-returns
-returns c = filled-made _ (c .before .before .before .args .trace) _ (c .before .before .before .pre .1 .most-cycles) (sym (length-map (c .before .fill .result .lines) _) ∙ c .before .fill .ok .1 .1 .0 .1 .0 .1) (ap (λ (g : NormalForm). g .rows) (c .before .before .normal-form .ensures)) refl (subst (λ (g : NormalForm). Filled g (c .before .before .before .args .trace) (c .before .fill .result .lines)) (c .before .before .normal-form .ensures) (c .before .fill .ensures))
+returns c = filled-made _ (c .before .before .before .args .trace) _ (c .before .before .before .pre .1 .most-cycles) (sym (length-map (c .before .fill .result .lanes) _) ∙ c .before .fill .ok .1 .1 .0 .1 .0 .1) (ap (λ (g : NormalForm). g .rows) (c .before .before .normal-form .ensures)) refl (subst (λ (g : NormalForm). Filled g (c .before .before .before .args .trace) (c .before .fill .result .lanes)) (c .before .before .normal-form .ensures) (c .before .fill .ensures))
 
 pub truth-sheet-spec : {M : Type 1} → statement M
 truth-sheet-spec = tie.close (tie.spec (λ c κs. search needs) fill-requires returns)

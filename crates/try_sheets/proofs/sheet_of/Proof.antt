@@ -4,10 +4,10 @@ use Rattle.try_sheets.proofs.sheet_of.Statement.{statement}
 use Rattle.try_sheets.proofs.sheet_of.Tie as tie
 
 abbrev Inv-loop : tie.InvT-loop
-Inv-loop rows cycles number size count lines₀ rest₀ k₀ lines rest k = Unit {0}
+Inv-loop rows cycles number size count lanes₀ rest₀ k₀ lanes rest k = Unit {0}
 
 abbrev μ-loop : tie.MeasureT-loop
-μ-loop rows cycles number size count lines₀ rest₀ k₀ lines rest k = count - k
+μ-loop rows cycles number size count lanes₀ rest₀ k₀ lanes rest k = count - k
 
 pub sheet-of-spec : {M : Type 1} → statement M
 sheet-of-spec =

@@ -10,10 +10,10 @@ use Rattle.sheet_file.proofs.sheet.read_rows.Statement.{statement}
 use Rattle.sheet_file.proofs.sheet.read_rows.Tie as tie
 
 abbrev Inv-loop : tie.InvT-loop
-Inv-loop body rows cycles rest₀ lines₀ k₀ rest lines k = RowsAt rows cycles body k lines rest × (length lines ≡ 128)
+Inv-loop body rows cycles rest₀ lanes₀ k₀ rest lanes k = RowsAt rows cycles body k lanes rest × (length lanes ≡ 128)
 
 abbrev μ-loop : tie.MeasureT-loop
-μ-loop body rows cycles rest₀ lines₀ k₀ rest lines k = rows - k
+μ-loop body rows cycles rest₀ lanes₀ k₀ rest lanes k = rows - k
 
 loop-holds : tie.Need-loop-holds Inv-loop μ-loop
 loop-holds c = (rows-start, search needs)
@@ -21,17 +21,17 @@ loop-holds c = (rows-start, search needs)
 returns : tie.Need-returns Inv-loop μ-loop
 returns c = c .refuse .ensures ∙ rows-wrong (c .before .before .before .before .before .loop .inv .0) (search needs) (c .before .before .before .digits-line .ensures .0) (c .before .enum-told .given .1)
 
-sub-digits-to-line : tie.Need-sub-digits-to-line Inv-loop μ-loop
-sub-digits-to-line c = omega (arith, digits-within _ _ (c .before .before .before .digits-line .ensures .1) (c .before .from .given .1))
+sub-digits-to-lane : tie.Need-sub-digits-to-lane Inv-loop μ-loop
+sub-digits-to-lane c = omega (arith, digits-within _ _ (c .before .before .before .digits-line .ensures .1) (c .before .from .given .1))
 
-part-digits-to-line-start : tie.Need-part-digits-to-line-start Inv-loop μ-loop
-part-digits-to-line-start c = omega (arith, digits-within _ _ (c .before .before .before .digits-line .ensures .1) (c .before .from .given .1))
+part-digits-to-lane-start : tie.Need-part-digits-to-lane-start Inv-loop μ-loop
+part-digits-to-lane-start c = omega (arith, digits-within _ _ (c .before .before .before .digits-line .ensures .1) (c .before .from .given .1))
 
-part-digits-to-line-end : tie.Need-part-digits-to-line-end Inv-loop μ-loop
-part-digits-to-line-end c = omega (arith, digits-within _ _ (c .before .before .before .digits-line .ensures .1) (c .before .from .given .1))
+part-digits-to-lane-end : tie.Need-part-digits-to-lane-end Inv-loop μ-loop
+part-digits-to-lane-end c = omega (arith, digits-within _ _ (c .before .before .before .digits-line .ensures .1) (c .before .from .given .1))
 
-digits-to-line-requires : tie.Need-digits-to-line-requires Inv-loop μ-loop
-digits-to-line-requires c κs = row-fits _ _ (c .before .before .before .before .digits-line .ensures .1) (c .before .before .from .given .1) (c .before .before .before .before .before .before .before .before .pre .1)
+digits-to-lane-requires : tie.Need-digits-to-lane-requires Inv-loop μ-loop
+digits-to-lane-requires c κs = row-fits _ _ (c .before .before .before .before .digits-line .ensures .1) (c .before .before .from .given .1) (c .before .before .before .before .before .before .before .before .pre .1)
 
 add-rest : tie.Need-add-rest Inv-loop μ-loop
 add-rest c = omega (arith, digits-within _ _ (c .before .before .before .before .before .digits-line .ensures .1) (c .before .before .before .from .given .1))
@@ -43,7 +43,7 @@ part-rest-start : tie.Need-part-rest-start Inv-loop μ-loop
 part-rest-start c = omega (arith, digits-within _ _ (c .before .before .before .before .before .digits-line .ensures .1) (c .before .before .before .from .given .1))
 
 loop-again : tie.Need-loop-again Inv-loop μ-loop
-loop-again c = let p = rows-more (c .before .before .before .before .before .before .before .before .loop .inv .0) (search needs) (c .before .before .before .before .before .before .digits-line .ensures .0) (c .before .before .before .before .from .given .1) (c .before .before .before .before .before .before .before .before .before .before .pre .0) (c .before .digits-to-line .ensures) in
+loop-again c = let p = rows-more (c .before .before .before .before .before .before .before .before .loop .inv .0) (search needs) (c .before .before .before .before .before .before .digits-line .ensures .0) (c .before .before .before .before .from .given .1) (c .before .before .before .before .before .before .before .before .before .before .pre .0) (c .before .digits-to-lane .ensures) in
     (rw rest-part p, rows-length p)
 
 returns-2 : tie.Need-returns-2 Inv-loop μ-loop
@@ -66,10 +66,10 @@ read-rows-spec =
     (λ c. search needs)
     (λ c κs. search needs)
     returns
-    sub-digits-to-line
-    part-digits-to-line-start
-    part-digits-to-line-end
-    digits-to-line-requires
+    sub-digits-to-lane
+    part-digits-to-lane-start
+    part-digits-to-lane-end
+    digits-to-lane-requires
     (λ c. search needs)
     (λ c. search needs)
     add-rest

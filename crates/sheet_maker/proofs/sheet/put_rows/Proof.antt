@@ -27,13 +27,13 @@ put-row-requires : tie.Need-put-row-requires Inv-loop μ-loop
 put-row-requires c κs = (search needs, omega (arith, c .before .before .before .loop .inv .2 .size))
 
 loop-again : tie.Need-loop-again Inv-loop μ-loop
-loop-again c = (omega arith, omega (arith, c .before .before .put-row .ensures .1), wrote-is (rows-next (c .before .before .before .before .before .before .before .before .args .t3) (sym (length-map (c .before .before .before .before .before .before .before .before .args .t3 .lines) _) ∙ c .before .before .before .before .before .before .before .before .good .1 .1 .0 .1 .1 .1 .1 .0 .1 .0 .1) (c .before .before .before .before .before .before .before .before .pre .0) (c .before .before .before .before .before .before .loop .k) (record { words = [] }) (c .before .before .before .before .before .before .before .before .pre .1) (omega arith)) (wrote-both (c .before .before .before .before .before .before .loop .inv .2) (c .before .before .put-row .ensures .0)))
+loop-again c = (omega arith, omega (arith, c .before .before .put-row .ensures .1), wrote-is (rows-next (c .before .before .before .before .before .before .before .before .args .t3) (sym (length-map (c .before .before .before .before .before .before .before .before .args .t3 .lanes) _) ∙ c .before .before .before .before .before .before .before .before .good .1 .1 .0 .1 .1 .1 .1 .0 .1 .0 .1) (c .before .before .before .before .before .before .before .before .pre .0) (c .before .before .before .before .before .before .loop .k) (record { words = [] }) (c .before .before .before .before .before .before .before .before .pre .1) (omega arith)) (wrote-both (c .before .before .before .before .before .before .loop .inv .2) (c .before .before .put-row .ensures .0)))
 
 same-length : tie.Need-same-length Inv-loop μ-loop
 same-length c = c .before .loop .inv .2 .size
 
 returns : tie.Need-returns Inv-loop μ-loop
-returns c = wrote-is (ap (writtenBody 122 digitsText 1) (rows-all (c .before .before .before .args .t3) (sym (length-map (c .before .before .before .args .t3 .lines) _) ∙ c .before .before .before .good .1 .1 .0 .1 .1 .1 .1 .0 .1 .0 .1) (c .before .before .before .pre .0) (c .before .loop .k) (omega arith))) (c .before .loop .inv .2)
+returns c = wrote-is (ap (writtenBody 122 digitsText 1) (rows-all (c .before .before .before .args .t3) (sym (length-map (c .before .before .before .args .t3 .lanes) _) ∙ c .before .before .before .good .1 .1 .0 .1 .1 .1 .1 .0 .1 .0 .1) (c .before .before .before .pre .0) (c .before .loop .k) (omega arith))) (c .before .loop .inv .2)
 
 pub put-rows-spec : {M : Type 1} → statement M
 put-rows-spec =

@@ -48,7 +48,7 @@ returns-2 : tie.Need-returns-2 Inv-loop μ-loop
 returns-2 c = c .refuse2 .ensures ∙ cycles-surplus (c .before .before .before .loop .inv) (search needs) _ (λ z. omega arith)
 
 returns-3 : tie.Need-returns-3 Inv-loop μ-loop
-returns-3 c = cycles-end (c .before .before .before .loop .inv) (search needs) _ (c .lines-from .ensures) (search needs)
+returns-3 c = cycles-end (c .before .before .before .loop .inv) (search needs) _ (c .lanes-from .ensures) (search needs)
 
 pub read-cycles-spec : {M : Type 1} → statement M
 read-cycles-spec =

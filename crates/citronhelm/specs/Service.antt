@@ -1,0 +1,45 @@
+-- What each service answers for files, by what the service on tables answers. Assumes nothing.
+use Prim.Native.Nat.{ℕ}
+use mathlib.Core.Path.{_≡_}
+use mathlib.Core.List.{List}
+use Rattle.tables.specs.Only.{TheOnly, TheOnlyPair}
+use Rattle.tables.specs.declared.refusal.Outcome.{Outcome}
+use Rattle.tables.specs.declared.refusal.Refusal.{Refusal}
+use Rattle.tables.specs.declared.row.Formula.{Formula}
+use Rattle.tables.specs.declared.trace.Activation.{Activation}
+use Rattle.tables.specs.declared.trace.Trace.{Trace}
+use Rattle.writing.specs.declared.answer.Bytes.{Bytes}
+use Rattle.judge_text.specs.Answer.{Prints}
+use Rattle.judging.specs.declared.verdict.Answer.{Answer}
+use Rattle.judging.specs.Refusals.{Answers}
+use Rattle.sheet_maker.specs.declared.MakerAnswer.{MakerAnswer}
+use Rattle.sheet_maker.specs.Answer.{Makes}
+use Rattle.checking.specs.declared.finding.CheckAnswer.{CheckAnswer}
+use Rattle.checking.specs.Answer.{CheckAnswers, checkOutcome}
+use Rattle.answer_code.specs.Code.{bytesCode, checkCode, judgeCode, makerCode, refusalCode}
+
+-- a refused call: its code, and "Output buffers are then untouched"
+abbrev pub Turned : List ℕ → List ℕ → ℕ → Refusal → Type 0
+Turned before after r why = (r ≡ refusalCode why) × (after ≡ before)
+
+-- the verdict's code where the checks of this judging service pass
+pub record JudgedAs (checks : Outcome) (f : Formula) (t : Trace) (r : ℕ) : Type 0 where
+  pub answer : Answer
+  pub answers : TheOnly (Answers checks f t) answer
+  pub coded : r ≡ judgeCode answer
+
+pub record MadeAs (f : Formula) (t : Trace) (before after : List ℕ) (r : ℕ) : Type 0 where
+  pub answer : MakerAnswer
+  pub makes : TheOnlyPair (Makes f t before) after answer
+  pub coded : r ≡ makerCode answer
+
+pub record CheckedAs (f : Formula) (t : Trace) (a : Activation) (r : ℕ) : Type 0 where
+  pub answer : CheckAnswer
+  pub answers : TheOnly (CheckAnswers (checkOutcome f t a) f t a) answer
+  pub coded : r ≡ checkCode answer
+
+-- the text of `judge`, or 10
+pub record PrintedAs (rule take before after : List ℕ) (r : ℕ) : Type 0 where
+  pub answer : Bytes
+  pub prints : TheOnlyPair (Prints rule take before) after answer
+  pub coded : r ≡ bytesCode answer

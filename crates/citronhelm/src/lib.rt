@@ -1,0 +1,214 @@
+// The services for programs in C and Rust (include/citronhelm.h): files in as bytes, an answer out as one number, and output into a
+// lent buffer. No state, nothing asked of the caller. A slice passes as a pointer and a length.
+ghost use mathlib.Core.Path.{_≡_};
+ghost use Rattle.text.specs.Result.{outcomeOf};
+ghost use Rattle.rule_file.specs.Rule.{parseRule};
+ghost use Rattle.take_file.specs.Take.{parseTake};
+ghost use Rattle.sheet_file.specs.Sheet.{parseSheet};
+ghost use Rattle.normal_form.specs.Numbering.{normalForm};
+ghost use Rattle.normal_form.specs.declared.sign.Sign.the-variants.{Plain};
+ghost use Rattle.normal_file.specs.Answer.{boundAnswer, normalAnswer, normalLeft};
+ghost use Rattle.judging.specs.Refusals.{loopedOutcome, openOutcome, pairOutcome};
+ghost use Rattle.step.specs.Step.{stepAnswer, stepLeft};
+ghost use Rattle.answer_code.specs.Code.{bytesCode, outcomeCode, refusalCode, signOf};
+ghost use Rattle.rule_and_take.specs.File.{OnFile, OnPair};
+ghost use Rattle.citronhelm.specs.Service.{CheckedAs, JudgedAs, MadeAs, PrintedAs, Turned};
+use normal_form::sign::Sign;
+use tables::refusal::Outcome;
+
+// Whether a file is a rule file, a take file, a sheet file.
+#[no_mangle]
+pub extern "C" fn citronhelm_read_rule(rule: &[u8]) -> u64
+    ensures { λ r. ⌜ r ≡ outcomeCode (outcomeOf 1 (parseRule (now (rule .entry)))) ⌝ }
+{
+    let read = rule_file::rule::read_rule(rule);
+    let outcome = read.outcome;
+    answer_code::outcome_code(outcome)
+}
+
+#[no_mangle]
+pub extern "C" fn citronhelm_read_take(take: &[u8]) -> u64
+    ensures { λ r. ⌜ r ≡ outcomeCode (outcomeOf 2 (parseTake (now (take .entry)))) ⌝ }
+{
+    let read = take_file::take::read_take(take);
+    let outcome = read.outcome;
+    answer_code::outcome_code(outcome)
+}
+
+#[no_mangle]
+pub extern "C" fn citronhelm_read_sheet(sheet: &[u8]) -> u64
+    ensures { λ r. ⌜ r ≡ outcomeCode (outcomeOf 3 (parseSheet (now (sheet .entry)))) ⌝ }
+{
+    let read = sheet_file::sheet::read_sheet(sheet);
+    let outcome = read.outcome;
+    answer_code::outcome_code(outcome)
+}
+
+// A bound on the length of the normal form's file.
+#[no_mangle]
+pub extern "C" fn citronhelm_bound(rule: &[u8]) -> u64
+    ensures { λ r. ⌜ OnFile 1 (parseRule (now (rule .entry))) (λ why. r ≡ refusalCode why) (λ f. r ≡ bytesCode (boundAnswer f)) ⌝ }
+{
+    let read = rule_file::rule::read_rule(rule);
+    let outcome = read.outcome;
+    match outcome {
+        Outcome::Refused(refusal) => answer_code::refusal_code(refusal),
+        Outcome::Accepted => answer_code::bytes_code(normal_file::bound(read.formula)),
+    }
+}
+
+// How many rows the normal form has.
+#[no_mangle]
+pub extern "C" fn citronhelm_rows(rule: &[u8]) -> u64
+    ensures { λ r. ⌜ OnFile 1 (parseRule (now (rule .entry))) (λ why. r ≡ refusalCode why) (λ f. r ≡ normalForm f Plain .rows) ⌝ }
+{
+    let read = rule_file::rule::read_rule(rule);
+    let outcome = read.outcome;
+    match outcome {
+        Outcome::Refused(refusal) => answer_code::refusal_code(refusal),
+        Outcome::Accepted => {
+            let form = normal_form::normal_form(read.formula, Sign::Plain);
+            form.rows as u64
+        }
+    }
+}
+
+// The file of the normal form, that of the negated rule where `negated` is not 0.
+#[no_mangle]
+pub extern "C" fn citronhelm_normal(rule: &[u8], negated: u8, output: &mut [u8]) -> u64
+    ensures { λ r. ⌜ OnFile 1 (parseRule (now (rule .entry))) (Turned (now (output .entry)) (now (output .exit)) r)
+        (λ f. (r ≡ bytesCode (normalAnswer f (signOf negated) (now (output .entry))))
+        × (now (output .exit) ≡ normalLeft f (signOf negated) (now (output .entry)))) ⌝ }
+{
+    let read = rule_file::rule::read_rule(rule);
+    let outcome = read.outcome;
+    match outcome {
+        Outcome::Refused(refusal) => answer_code::refusal_code(refusal),
+        Outcome::Accepted => {
+            let sign = answer_code::sign_named(negated);
+            answer_code::bytes_code(normal_file::write_normal(read.formula, sign, output))
+        }
+    }
+}
+
+// The verdict on a rule and a take of either kind; of a looped one; of an open one.
+#[no_mangle]
+pub extern "C" fn citronhelm_judge(rule: &[u8], take: &[u8]) -> u64
+    ensures { λ r. ⌜ OnPair (parseRule (now (rule .entry))) (parseTake (now (take .entry))) (λ why. r ≡ refusalCode why)
+        (λ f t. JudgedAs (pairOutcome f t) f t r) ⌝ }
+{
+    let pair = rule_and_take::read_pair(rule, take);
+    let outcome = pair.outcome;
+    match outcome {
+        Outcome::Refused(refusal) => answer_code::refusal_code(refusal),
+        Outcome::Accepted => answer_code::judge_code(judging::judge(pair.formula, pair.trace)),
+    }
+}
+
+#[no_mangle]
+pub extern "C" fn citronhelm_judge_looped(rule: &[u8], take: &[u8]) -> u64
+    ensures { λ r. ⌜ OnPair (parseRule (now (rule .entry))) (parseTake (now (take .entry))) (λ why. r ≡ refusalCode why)
+        (λ f t. JudgedAs (loopedOutcome f t) f t r) ⌝ }
+{
+    let pair = rule_and_take::read_pair(rule, take);
+    let outcome = pair.outcome;
+    match outcome {
+        Outcome::Refused(refusal) => answer_code::refusal_code(refusal),
+        Outcome::Accepted => answer_code::judge_code(judging::judge_looped(
+            pair.formula,
+            pair.trace,
+        )),
+    }
+}
+
+#[no_mangle]
+pub extern "C" fn citronhelm_judge_open(rule: &[u8], take: &[u8]) -> u64
+    ensures { λ r. ⌜ OnPair (parseRule (now (rule .entry))) (parseTake (now (take .entry))) (λ why. r ≡ refusalCode why)
+        (λ f t. JudgedAs (openOutcome f t) f t r) ⌝ }
+{
+    let pair = rule_and_take::read_pair(rule, take);
+    let outcome = pair.outcome;
+    match outcome {
+        Outcome::Refused(refusal) => answer_code::refusal_code(refusal),
+        Outcome::Accepted => answer_code::judge_code(judging::judge_open(pair.formula, pair.trace)),
+    }
+}
+
+// The text of program `judge`.
+#[no_mangle]
+pub extern "C" fn citronhelm_judge_text(rule: &[u8], take: &[u8], output: &mut [u8]) -> u64
+    ensures { λ r. ⌜ PrintedAs (now (rule .entry)) (now (take .entry)) (now (output .entry)) (now (output .exit)) r ⌝ }
+{
+    answer_code::bytes_code(judge_text::judge(rule, take, output))
+}
+
+// One cycle of a rule's monitors.
+#[no_mangle]
+pub extern "C" fn citronhelm_step(
+    rule: &[u8],
+    pendings: &[u8],
+    activators: &[u8],
+    signals: &[u8],
+    output: &mut [u8],
+) -> u64
+    ensures { λ r. ⌜ OnFile 1 (parseRule (now (rule .entry))) (Turned (now (output .entry)) (now (output .exit)) r)
+        (λ f. (r ≡ bytesCode (stepAnswer f (now (pendings .entry)) (now (activators .entry)) (now (signals .entry)) (now (output .entry))))
+        × (now (output .exit)
+        ≡ stepLeft f (now (pendings .entry)) (now (activators .entry)) (now (signals .entry)) (now (output .entry)))) ⌝ }
+{
+    let read = rule_file::rule::read_rule(rule);
+    let outcome = read.outcome;
+    match outcome {
+        Outcome::Refused(refusal) => answer_code::refusal_code(refusal),
+        Outcome::Accepted => answer_code::bytes_code(step::step(
+            read.formula,
+            pendings,
+            activators,
+            signals,
+            output,
+        )),
+    }
+}
+
+// The sheet of a rule and a take.
+#[no_mangle]
+pub extern "C" fn citronhelm_make_sheet(rule: &[u8], take: &[u8], output: &mut [u8]) -> u64
+    ensures { λ r. ⌜ OnPair (parseRule (now (rule .entry))) (parseTake (now (take .entry)))
+        (Turned (now (output .entry)) (now (output .exit)) r) (λ f t. MadeAs f t (now (output .entry)) (now (output .exit)) r) ⌝ }
+{
+    let pair = rule_and_take::read_pair(rule, take);
+    let outcome = pair.outcome;
+    match outcome {
+        Outcome::Refused(refusal) => answer_code::refusal_code(refusal),
+        Outcome::Accepted => answer_code::maker_code(sheet_maker::make_sheet(
+            pair.formula,
+            pair.trace,
+            output,
+        )),
+    }
+}
+
+// What a check of a sheet finds.
+#[no_mangle]
+pub extern "C" fn citronhelm_check_sheet(rule: &[u8], take: &[u8], sheet: &[u8]) -> u64
+    ensures { λ r. ⌜ OnPair (parseRule (now (rule .entry))) (parseTake (now (take .entry))) (λ why. r ≡ refusalCode why)
+        (λ f t. OnFile 3 (parseSheet (now (sheet .entry))) (λ why. r ≡ refusalCode why) (λ a. CheckedAs f t a r)) ⌝ }
+{
+    let pair = rule_and_take::read_pair(rule, take);
+    let outcome = pair.outcome;
+    match outcome {
+        Outcome::Refused(refusal) => answer_code::refusal_code(refusal),
+        Outcome::Accepted => {
+            let third = sheet_file::sheet::read_sheet(sheet);
+            let own = third.outcome;
+            match own {
+                Outcome::Refused(refusal) => answer_code::refusal_code(refusal),
+                Outcome::Accepted => answer_code::check_code(checking::check_sheet(
+                    pair.formula,
+                    pair.trace,
+                    third.activation,
+                )),
+            }
+        }
+    }
+}

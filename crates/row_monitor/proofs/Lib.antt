@@ -1,0 +1,3 @@
+pub mod ReportLoop
+pub mod WordLaws
+pub mod WordLoop

@@ -1,0 +1,2 @@
+pub mod RowReport
+pub mod Word

@@ -1,3 +1,0 @@
-pub mod RunLoop
-pub mod WordLaws
-pub mod WordLoop

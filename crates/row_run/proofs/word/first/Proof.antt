@@ -1,9 +1,0 @@
-use Rattle.row_run.proofs.WordLaws.{word-first}
-use Rattle.row_run.proofs.word.first.Statement.{statement}
-use Rattle.row_run.proofs.word.first.Tie as tie
-
-returns : tie.Need-returns
-returns c = word-first (c .args .word)
-
-pub first-spec : {M : Type 1} → statement M
-first-spec = tie.close (tie.spec returns)

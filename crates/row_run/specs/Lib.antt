@@ -1,2 +1,0 @@
-pub mod RowRun
-pub mod Word

@@ -1,7 +1,0 @@
-pub mod SurveyLoop
-pub mod Findings
-pub mod Conclusions
-pub mod Answers
-pub mod Demand
-pub mod ByRun
-pub mod Bounds
