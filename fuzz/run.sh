@@ -45,10 +45,10 @@ link() {
 
 # The proved library once more from its module.
 library() {
-    if [ -e "$made/library.o" ] && [ -e target/staticlib/liblibrary.a ] &&
+    if [ -e "$made/library.o" ] && [ -e target/staticlib/libcitronhelm.a ] &&
         [ -z "$(find crates -name '*.rt' -newer "$made/library.o" -print -quit)" ]; then return; fi
     keeping_kit
-    RATTLE_HOME=$made/kit rt staticlib library >"$made/library.log" 2>&1 || { cat "$made/library.log" >&2; exit 1; }
+    RATTLE_HOME=$made/kit rt staticlib citronhelm >"$made/library.log" 2>&1 || { cat "$made/library.log" >&2; exit 1; }
     "$kit_clang" -S -emit-llvm -x ir "$made/library.bc" -o "$made/library.ll"
     sed -i 's/^attributes #0 = {/& sanitize_address/' "$made/library.ll"
     compile "$made/library.ll" "$made/library.o"
@@ -62,7 +62,7 @@ build() {
     (cd fuzz && RUSTFLAGS=$flags cargo build --quiet --offline --locked --release --target x86_64-unknown-linux-gnu \
         --target-dir "$made/cargo")
     link "$made/library.o" "$made/bin"
-    link target/staticlib/liblibrary.a "$made/plain"
+    link target/staticlib/libcitronhelm.a "$made/plain"
     rm -rf "$made/seeds" && fuzz/seeds.py "$made/seeds"
 }
 

@@ -2,7 +2,7 @@
 # Tries the library from C and from Rust: builds it, holds its need of stack to the header's, runs the C program over examples/, the test
 # of steps in place, the tests of the Rust crates, the Rust program on an example, and the comparison with the second implementation.
 # Stops at the first failure; what a step printed is shown only then.
-#     rust/check.sh        CITRONHELM_LIB=FOLDER takes FOLDER/liblibrary.a in the place of building it
+#     rust/check.sh        CITRONHELM_LIB=FOLDER takes FOLDER/libcitronhelm.a in the place of building it
 set -euo pipefail
 cd "$(dirname "$0")/.."
 scratch=$(mktemp -d)
@@ -24,7 +24,7 @@ rust_answers() {
 }
 
 if [ -z "${CITRONHELM_LIB:-}" ]; then
-    quietly rt staticlib library
+    quietly rt staticlib citronhelm
     CITRONHELM_LIB=target/staticlib
 fi
 CITRONHELM_LIB=$(realpath "$CITRONHELM_LIB")
@@ -32,9 +32,9 @@ export CITRONHELM_LIB
 
 quietly bench/stack.py bound
 compile=(cc -std=c99 -pedantic -Wall -Wextra -Werror -O2 -I include)
-quietly "${compile[@]}" tests/step_in_place.c "$CITRONHELM_LIB/liblibrary.a" -o "$scratch/step_in_place"
+quietly "${compile[@]}" tests/step_in_place.c "$CITRONHELM_LIB/libcitronhelm.a" -o "$scratch/step_in_place"
 quietly "$scratch/step_in_place"
-quietly "${compile[@]}" examples/c/judge.c "$CITRONHELM_LIB/liblibrary.a" -o "$scratch/judge"
+quietly "${compile[@]}" examples/c/judge.c "$CITRONHELM_LIB/libcitronhelm.a" -o "$scratch/judge"
 judged=0
 for folder in examples/*/; do
     [ -e "${folder}rule.txt" ] && [ -e "${folder}take.txt" ] && [ -e "${folder}expected.txt" ] || continue

@@ -1,8 +1,8 @@
 /*
  * Judges the rule and the take in the two files named on the command line, by the proved library.
  *
- *     rt staticlib library
- *     cc -std=c99 -Wall -Wextra -Werror -I include examples/c/judge.c target/staticlib/liblibrary.a -o judge_c
+ *     rt staticlib citronhelm
+ *     cc -std=c99 -Wall -Wextra -Werror -I include examples/c/judge.c target/staticlib/libcitronhelm.a -o judge_c
  *     ./judge_c examples/c/rule.txt examples/c/take.txt
  *
  * Prints the verdict, or the refusal's number, file and line.

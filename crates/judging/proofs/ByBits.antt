@@ -39,8 +39,9 @@ use Rattle.judging.specs.declared.verdict.Verdict.the-variants.{Holds, B
 use Rattle.judging.specs.declared.verdict.Answer.{Answer}
 use Rattle.judging.specs.declared.verdict.Answer.the-variants.{Judged, Refused as AnswerRefused}
 use Rattle.judging.specs.Verdict.{StronglyTrue, VerdictOf}
-use Rattle.judging.specs.Refusals.{pairOutcome, Answers}
-use Rattle.tables.specs.Refusal.{andThen}
+use Rattle.meeting.specs.Meeting.{pairOutcome, eightOutcome}
+use Rattle.meeting.specs.declared.Wanted.{Wanted}
+use Rattle.judging.specs.Answer.{Answers}
 use Rattle.tables.proofs.Outcomes.{agree}
 use Rattle.judging.proofs.Verdicts.{kept-not-broken, holds-verdict, breaks-verdict, kept-verdict, broken-verdict, open-verdict}
 
@@ -102,12 +103,11 @@ module _ (f : Formula) (t : Trace) (fine : FormulaInRange f) (range : TraceInRan
 -- ---- the answer, to tables that were read
 
 module _ (f : Formula) (t : Trace) (rule : FormulaValid f) (take : TraceValid t) (same : f .signals ≡ t .signals) where
-  pair-accepted : pairOutcome f t ≡ Accepted
-  pair-accepted = rw (rule-written f rule, take-written t take) (sym (agree (f .signals) (t .signals) same))
-
-  -- a service that also takes the ending, as each does with its own kind of take, gives the computed verdict
-  pub answered : {o : Outcome} → o ≡ Accepted → Answers (andThen (pairOutcome f t) o) f t (Judged (computedVerdict f t))
-  answered e = rw (pair-accepted, e) (computedVerdict f t, refl, verdict-computed f t (rule .in-range) (take .range))
+  -- a service for this kind of take gives the computed verdict
+  pub answered : (wanted : Wanted) → eightOutcome wanted (t .ending) ≡ Accepted → Answers (pairOutcome wanted f t) f t (Judged (computedVerdict f t))
+  answered wanted e =
+      rw (rule-written f rule, take-written t take, sym (agree (f .signals) (t .signals) same), e)
+      (computedVerdict f t, refl, verdict-computed f t (rule .in-range) (take .range))
 
 -- THE CONTRACT LEAVES ONE ANSWER
 pub one-answer : (o : Outcome) (f : Formula) (t : Trace) (r s : Answer) → Answers o f t r → Answers o f t s → r ≡ s

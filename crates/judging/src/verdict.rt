@@ -14,9 +14,3 @@ pub enum Answer {
     Judged(Verdict),
     Refused(Refusal),
 }
-
-// A verdict, and how many rows the normal form has.
-pub struct Judgement {
-    pub rows: u8,
-    pub verdict: Verdict,
-}

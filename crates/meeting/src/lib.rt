@@ -4,6 +4,7 @@ use normal_form::sign::Sign;
 use tables::refusal::Outcome;
 use tables::refusal::Reason;
 use tables::refusal::call_refused;
+use tables::refusal::first_refusal;
 use tables::row::ConstantKind;
 use tables::row::Formula;
 use tables::row::NormalForm;
@@ -12,6 +13,9 @@ use tables::row::RowPlace;
 use tables::trace::Ending;
 use tables::trace::Trace;
 ghost use mathlib.Core.Path.{_≡_};
+ghost use lib.Dec.{eqb};
+ghost use Rattle.tables.specs.Choice.{pick};
+ghost use Rattle.tables.specs.Refusal.{callRefused, numbered};
 ghost use Rattle.rule_file.specs.Valid.{InRange as FormulaInRange};
 ghost use Rattle.take_file.specs.Valid.{InRange as TraceInRange};
 ghost use Rattle.normal_form.specs.Numbering.{normalForm};
@@ -37,10 +41,17 @@ pub fn check_own(formula: Formula, trace: Trace) -> Outcome
     ensures range { λ r. ⌜ (r ≡ Outcome.Accepted → FormulaInRange formula × TraceInRange trace) ⌝ }
 {
     let rule = rule_file::check::check_formula(formula);
-    let Outcome::Accepted = rule else {
-        return rule;
-    };
-    take_file::check::check_trace(trace)
+    let take = take_file::check::check_trace(trace);
+    first_refusal(rule, take)
+}
+
+fn check_signals(rule: u8, take: u8) -> Outcome
+    ensures outcome { λ r. ⌜ r ≡ pick (eqb rule take) Outcome.Accepted (callRefused (numbered 7)) ⌝ }
+{
+    if rule != take {
+        return call_refused(Reason::SignalsDiffer);
+    }
+    Outcome::Accepted
 }
 
 fn check_ending(wanted: Wanted, ending: Ending) -> Outcome
@@ -63,11 +74,11 @@ fn check_ending(wanted: Wanted, ending: Ending) -> Outcome
 fn check_met(formula: Formula, trace: Trace, wanted: Wanted) -> Outcome
     ensures outcome { λ r. ⌜ r ≡ meetingOutcome wanted formula trace ⌝ }
 {
-    if formula.signals != trace.signals {
-        return call_refused(Reason::SignalsDiffer);
-    }
     let ending = trace.ending;
-    check_ending(wanted, ending)
+    first_refusal(
+        check_signals(formula.signals, trace.signals),
+        check_ending(wanted, ending),
+    )
 }
 
 fn no_form() -> NormalForm {

@@ -1,6 +1,5 @@
 // A rule file and a take file, as most services get them: read one after the other, with the first refusal.
 ghost use mathlib.Core.Path.{_≡_};
-ghost use Rattle.tables.specs.Refusal.{andThen};
 ghost use Rattle.rule_file.specs.Rule.{parseRule};
 ghost use Rattle.take_file.specs.Take.{parseTake};
 ghost use Rattle.rule_and_take.specs.File.{joined, pairRead};
@@ -17,22 +16,13 @@ pub struct Pair {
     pub trace: Trace,
 }
 
-fn first_refusal(first: Outcome, second: Outcome) -> Outcome
-    ensures { λ r. ⌜ r ≡ andThen first second ⌝ }
-{
-    match first {
-        Outcome::Accepted => second,
-        Outcome::Refused(refusal) => Outcome::Refused(refusal),
-    }
-}
-
 // What the readers answered, as a pair: for files that were read one after the other through one buffer.
 pub fn join(first: RuleAnswer, second: TakeAnswer) -> Pair
     ensures { λ r. ⌜ r ≡ joined first second ⌝ }
 {
     let one = first.outcome;
     let two = second.outcome;
-    let outcome = first_refusal(one, two);
+    let outcome = tables::refusal::first_refusal(one, two);
     let formula = first.formula;
     let trace = second.trace;
     Pair {

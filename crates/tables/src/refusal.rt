@@ -1,6 +1,6 @@
 // Why a file or a call is turned back (01: "Why a file is turned back").
 ghost use mathlib.Core.Path.{_≡_};
-ghost use Rattle.tables.specs.Refusal.{callRefused, number};
+ghost use Rattle.tables.specs.Refusal.{andThen, callRefused, number};
 
 pub enum Reason {
     TooLong,
@@ -54,4 +54,14 @@ pub fn call_refused(reason: Reason) -> Outcome
         file: 0,
         line: 0,
     })
+}
+
+// Checks one after the other: the first that refuses.
+pub fn first_refusal(first: Outcome, second: Outcome) -> Outcome
+    ensures outcome { λ r. ⌜ r ≡ andThen first second ⌝ }
+{
+    match first {
+        Outcome::Accepted => second,
+        Outcome::Refused(refusal) => Outcome::Refused(refusal),
+    }
 }

@@ -1,21 +1,38 @@
--- What a service answers that has its text ready, and what it leaves in the lent buffer. Assumes nothing.
-use Prim.Native.Nat.{ℕ}
-use mathlib.Core.Path.{_≡_, sym, ap}
-use mathlib.Core.Bool.{true, false}
+-- Delivery, in place and from a text that is ready, and that what is printed is fixed where its text is. Assumes nothing.
+use Prim.Native.Nat.{ℕ, _+_, _≤_, _<_}
+use mathlib.Core.Path.{_≡_, refl, sym, ap, subst, _∙_}
 use mathlib.Core.List.{List}
-use lib.Dec.{leb}
+use native.Mathlib.Omega.{arith}
 use lib.ListN.{length}
-use Rattle.writing.specs.declared.answer.Bytes.the-variants.{Count, Refused as BytesRefused}
-use Rattle.writing.specs.Answer.{tooShort, writtenAnswer}
-use Rattle.writing.specs.Lent.{overlaid}
+use borrow.Author.Tests.{le-leb, lt-leb}
+use Rattle.tables.specs.Only.{TheOnlyPair}
+use Rattle.writing.specs.declared.answer.Bytes.{Bytes}
+use Rattle.writing.specs.declared.answer.Bytes.the-variants.{Count, Refused}
+use Rattle.writing.specs.Answer.{tooShort, writtenAnswer, Delivers, Prints}
+use Rattle.writing.specs.Lent.{Wrote, overlaid}
+use Rattle.writing.proofs.Texts.{overlaid-all, overlaid-none}
 
--- t is what was made, and text what it has to be
-module _ (buf : List ℕ) {t text : List ℕ} (q : t ≡ text) where
-  pub fits-answer : {n : ℕ} → n ≡ length t → leb (length t) (length buf) ≡ true → Count n ≡ writtenAnswer text buf
-  fits-answer p h = sym (rw (← q, h, ← p))
+-- a text that was put at the start of a buffer that has room for it
+pub wrote-delivers : {text before after : List ℕ} {n : ℕ} → length text ≤ length before → Wrote before 0 text after n → Delivers text before after (Count n)
+wrote-delivers {text} {before} {after} {n} h w = record {
+  answered = let e : n ≡ length text = w .next ∙ (let z : 0 + length text ≡ length text = omega arith in z) in rw (le-leb (length text) (length before) h, e) refl;
+  left = overlaid-all text before after n h w;
+}
 
-  pub short-answer : leb (length t) (length buf) ≡ false → BytesRefused tooShort ≡ writtenAnswer text buf
-  short-answer h = sym (rw (← q, h))
+-- one that has none
+pub short-delivers : {text before : List ℕ} → length before < length text → Delivers text before before (Refused tooShort)
+short-delivers {text} {before} h = record { answered = rw (lt-leb (length text) (length before) h) refl; left = overlaid-none text before h }
 
-  pub text-left : overlaid t buf ≡ overlaid text buf
-  text-left = ap (λ x. overlaid x buf) q
+pub delivers-is : {made text before after : List ℕ} {answer : Bytes} → made ≡ text → Delivers made before after answer → Delivers text before after answer
+delivers-is {made} {text} {before} {after} {answer} e d = subst (λ x. Delivers x before after answer) e d
+
+-- A DELIVERY IS FIXED BY ITS TEXT, and a print-out where there is one such text
+pub delivered-once : {text before after other : List ℕ} {answer reply : Bytes} → Delivers text before after answer → Delivers text before other reply → (other ≡ after) × (reply ≡ answer)
+delivered-once x y = (y .left ∙ sym (x .left), y .answered ∙ sym (x .answered))
+
+pub only-prints : (IsText : List ℕ → Type 0) → ((s t : List ℕ) → IsText s → IsText t → s ≡ t) → (before after : List ℕ) (answer : Bytes)
+    → Prints IsText before after answer → TheOnlyPair (Prints IsText before) after answer
+only-prints IsText one before after answer x = record {
+  so = x;
+  only = λ other reply y. delivered-once (x .delivered) (delivers-is (one (y .text) (x .text) (y .is-text) (x .is-text)) (y .delivered));
+}

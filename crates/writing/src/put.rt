@@ -2,10 +2,9 @@
 ghost use mathlib.Core.Path.{_≡_};
 ghost use mathlib.Core.List.{[], _∷_};
 ghost use Prim.Native.Nat.{_+_, _≤_, _<_};
-ghost use lib.Dec.{leb};
 ghost use lib.ListN.{length};
 ghost use Rattle.text.specs.Written.{decimal};
-ghost use Rattle.writing.specs.Lent.{Wrote, overlaid};
+ghost use Rattle.writing.specs.Lent.{Wrote};
 
 // Puts a text into the buffer, and answers the place behind it.
 pub fn put(buf: &mut [u8], at: usize, text: &[u8]) -> usize
@@ -52,16 +51,4 @@ pub fn put_number(buf: &mut [u8], at: usize, n: u16) -> usize
     let b = put_byte(&mut *buf, at, digit(tens / 10));
     let c = put_byte(&mut *buf, b, digit(tens % 10));
     put_byte(buf, c, digit(n % 10))
-}
-
-// An output goes into the lent buffer whole, or not at all.
-pub fn deliver(text: &[u8], buf: &mut [u8]) -> bool
-    ensures { λ r. ⌜ (r ≡ leb (length (now (text .entry))) (length (now (buf .entry))))
-        × (now (buf .exit) ≡ overlaid (now (text .entry)) (now (buf .entry))) ⌝ }
-{
-    if buf.len() < text.len() {
-        return false;
-    }
-    put(buf, 0, text);
-    true
 }
