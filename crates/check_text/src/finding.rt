@@ -31,11 +31,11 @@ fn put_place(buf: &mut [u8], at: usize, finding: Finding) -> usize
     match finding {
         Finding::Root => at,
         Finding::Failed(row, cycle) => {
-            let i = put_number_line(&mut *buf, at, b"row", row as u16);
-            put_number_line(buf, i, b"cycle", cycle)
+            let i = put_number_line(&mut *buf, at, b"row", row as u32);
+            put_number_line(buf, i, b"cycle", cycle as u32)
         }
-        Finding::Starved(row) => put_number_line(buf, at, b"row", row as u16),
-        Finding::Pending(row) => put_number_line(buf, at, b"row", row as u16),
+        Finding::Starved(row) => put_number_line(buf, at, b"row", row as u32),
+        Finding::Pending(row) => put_number_line(buf, at, b"row", row as u32),
         Finding::Passes => at,
     }
 }

@@ -20,7 +20,7 @@ fn put_ending(buf: &mut [u8], at: usize, ending: Ending) -> usize
 {
     match ending {
         Ending::Open => put_text_line(buf, at, b"loop", b"none"),
-        Ending::Loop(cycle) => put_number_line(buf, at, b"loop", cycle),
+        Ending::Loop(cycle) => put_number_line(buf, at, b"loop", cycle as u32),
     }
 }
 
@@ -51,9 +51,9 @@ pub fn put_verdict(
     ensures { λ r. ⌜ Wrote (now (buf .entry)) 0 (verdictText signals rows cycles ending verdict) (now (buf .exit)) r ⌝ }
     ensures { λ r. ⌜ r ≤ 64 ⌝ }
 {
-    let a = put_number_line(&mut *buf, 0, b"signals", signals as u16);
-    let b = put_number_line(&mut *buf, a, b"rows", rows as u16);
-    let c = put_number_line(&mut *buf, b, b"cycles", cycles);
+    let a = put_number_line(&mut *buf, 0, b"signals", signals as u32);
+    let b = put_number_line(&mut *buf, a, b"rows", rows as u32);
+    let c = put_number_line(&mut *buf, b, b"cycles", cycles as u32);
     let d = put_ending(&mut *buf, c, ending);
     put_word(buf, d, verdict)
 }

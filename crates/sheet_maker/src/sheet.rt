@@ -49,7 +49,7 @@ fn put_row(buf: &mut [u8], at: usize, number: u8, lane: Lane, cycles: u16) -> us
     ensures { λ r. ⌜ r ≤ at + 262 ⌝ }
 {
     let a = put_byte(&mut *buf, at, b'z');
-    let b = put_number(&mut *buf, a, number as u16);
+    let b = put_number(&mut *buf, a, number as u32);
     let c = put_byte(&mut *buf, b, b'=');
     let d = put_digits(&mut *buf, c, lane, cycles);
     put_byte(buf, d, b'\n')
@@ -76,7 +76,7 @@ pub fn put_sheet(buf: &mut [u8], sheet: Activation) -> usize
     ensures { λ r. ⌜ Wrote (now (buf .entry)) 0 (writtenSheet sheet) (now (buf .exit)) r ⌝ }
 {
     let a = put_number_line(&mut *buf, 0, b"format", 1);
-    let b = put_number_line(&mut *buf, a, b"rows", sheet.rows as u16);
-    let c = put_number_line(&mut *buf, b, b"cycles", sheet.cycles);
+    let b = put_number_line(&mut *buf, a, b"rows", sheet.rows as u32);
+    let c = put_number_line(&mut *buf, b, b"cycles", sheet.cycles as u32);
     put_rows(buf, c, sheet)
 }

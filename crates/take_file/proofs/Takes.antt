@@ -39,7 +39,8 @@ use Rattle.text.proofs.Answered.{accepted-table}
 use Rattle.text.proofs.RefusedLines.{RefusedBy, map-by, test-by, line-by, count-by, body-by, refused-line, outcome-line}
 use Rattle.text.proofs.Headers.{free, parsed-accepted, map-accepted, test-accepted, outcome-accepted, line-then, count-then, count-in, count-below, count-above, count-range}
 use Rattle.take_file.specs.Ending.{endingValue}
-use Rattle.take_file.specs.Take.{digit, lanesOf, traceOf, parseTake, takeAnswer}
+use Rattle.recording.specs.Recording.{digit, lanesOf}
+use Rattle.take_file.specs.Take.{traceOf, parseTake, takeAnswer}
 use Rattle.take_file.specs.declared.take.TakeAnswer.{TakeAnswer}
 use Rattle.take_file.specs.Written.{endingText, cyclesOf, writtenTake}
 use Rattle.take_file.specs.Valid.{Below, isBelow, InRange, Valid}

@@ -1,18 +1,16 @@
 -- The take file, line by line. Assumes nothing.
 use Prim.Native.Nat.{ℕ}
-use mathlib.Core.Bool.{Bool, false}
+use mathlib.Core.Bool.{Bool}
 use mathlib.Core.List.{List, []}
 use lib.Dec.{ltb}
-use lib.ListN.{length, getD}
+use lib.ListN.{length}
 use Rattle.tables.specs.Refusal.{numbered}
 use Rattle.tables.specs.Choice.{pick}
 use Rattle.tables.specs.Bytes.{bytes}
-use Rattle.tables.specs.Place.{tabulate}
-use Rattle.tables.specs.Bit.{laneOf}
 use Rattle.tables.specs.declared.trace.Ending.{Ending}
 use Rattle.tables.specs.declared.trace.Ending.the-variants.{Open}
-use Rattle.tables.specs.declared.trace.Lane.{Lane}
 use Rattle.tables.specs.declared.trace.Trace.{Trace}
+use Rattle.recording.specs.Recording.{lanesOf}
 use Rattle.text.specs.Line.{isKey, keyedLine}
 use Rattle.text.specs.Count.{countForm}
 use Rattle.text.specs.Digits.{digitsForm}
@@ -22,15 +20,7 @@ use Rattle.text.specs.Result.Result.{refused}
 use Rattle.take_file.specs.Ending.{endingValue}
 use Rattle.take_file.specs.declared.take.TakeAnswer.{TakeAnswer}
 
--- the digit of cycle c and signal s, both counted from 0; none is 0
-abbrev pub digit : List (List Bool) → ℕ → ℕ → Bool
-digit cycles c s = getD (getD cycles c []) s false
-
--- a lane for each signal: at cycle c it has that signal's digit
-abbrev pub lanesOf : List (List Bool) → List Lane
-lanesOf cycles = tabulate 32 (λ s. laneOf (λ c. digit cycles c s))
-
--- what a take file stands for: its counts, its ending, and its cycles as lanes
+-- what a take file stands for: its counts, its ending, and its cycles as a recording holds them
 abbrev pub traceOf : ℕ → ℕ → Ending → List (List Bool) → Trace
 traceOf signals cycles ending cs = record { signals = signals; cycles = cycles; ending = ending; lanes = lanesOf cs }
 

@@ -6,7 +6,7 @@ use lib.Dec.{ltb}
 use Rattle.tables.specs.declared.trace.Ending.{Ending}
 use Rattle.tables.specs.declared.trace.Ending.the-variants.{Open, Loop}
 use Rattle.tables.specs.declared.trace.Trace.{Trace}
-use Rattle.take_file.specs.Take.{lanesOf}
+use Rattle.recording.specs.Recording.{lanesOf}
 use Rattle.take_file.specs.Written.{cyclesOf}
 
 -- "`none`, or the cycle where the loop begins, from 0 to cycles less 1"

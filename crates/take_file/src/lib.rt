@@ -1,5 +1,4 @@
 // Take files: reading them, and checking a trace that is handed over as a table (01, "The files").
 pub mod check;
-pub mod cycle;
 pub mod ending;
 pub mod take;

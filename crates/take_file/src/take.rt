@@ -49,20 +49,20 @@ fn read_cycles(body: &[u8], signals: usize, cycles: usize, ending: Ending) -> Ta
         (bodyLines 99 (λ c. digitsForm signals) cycles 0 5 (now (body .entry)))) ⌝ }
 {
     let mut rest = body;
-    let mut words = [0; 128];
+    let mut words = recording::empty();
     let mut c = 0;
     while c < cycles {
         let Digits::At(from, end) = text::digits::digits_line(rest, b'c', c, signals) else {
             return refuse(Reason::WrongForm, c + 5);
         };
-        crate::cycle::put_cycle(&mut words, &rest[from..end], c);
+        recording::put_cycle(&mut words, &rest[from..end], c);
         rest = &rest[end + 1..];
         c += 1;
     }
     if rest.len() != 0 {
         return refuse(Reason::WrongForm, c + 5);
     }
-    let lanes = crate::cycle::lanes_from(words);
+    let lanes = recording::lanes_from(words);
     TakeAnswer {
         outcome: Outcome::Accepted,
         trace: Trace {

@@ -3,10 +3,12 @@ use Prim.Native.Nat.{ℕ, suc, _+_, _-_, _/_, _%_, _≤_, _<_}
 use mathlib.Core.Path.{_≡_, refl, sym, ap, ap₂, subst, _∙_}
 use mathlib.Core.List.{List, [], _∷_, _++_, map, append-assoc, append-nil}
 use native.Mathlib.Numerals.{add-one}
+use native.Mathlib.Decide.{decLt}
 use native.Mathlib.Omega.{arith}
 use lib.ListN.{length, getD, set, take, drop, length-append, length-set, length-take, take-append-drop, length-map, List·getD-map}
 use lib.Seq.{paste, paste-suc, length-paste, take-paste, drop-paste, take-all, take-suc, drop-drop, drop-set-lt, take-suc-set, length-take-le, getD-take}
 use borrow.Author.Tests.{lt-ltb, le-ltb, le-leb, lt-leb}
+use Rattle.text.proofs.Numbers.{decimal-large}
 use Rattle.text.specs.Written.{decimalIn, decimal, writtenLine, writtenBody}
 use Rattle.writing.specs.Lent.{Wrote, overlaid}
 
@@ -55,6 +57,27 @@ module _ (n : ℕ) where
   pub decimal-three : 10 ≤ n → 10 ≤ n / 10 → n / 10 / 10 < 10 → (48 + n / 10 / 10) ∷ (48 + n / 10 % 10) ∷ (48 + n % 10) ∷ [] ≡ decimal n
   unfolding decimal decimalIn
   decimal-three g h k = sym (rw (le-ltb n 10 g, le-ltb (n / 10) 10 h, lt-ltb (n / 10 / 10) 10 k))
+
+-- more digits than three change nothing for a number that has three
+decimal-three-most : (n : ℕ) → n < 1000 → decimalIn 4 n ≡ decimalIn 2 n
+unfolding decimalIn
+decimal-three-most n h = by (decLt n 10) (decLt (n / 10) 10)
+  where
+    by : Dec (n < 10) → Dec (n / 10 < 10) → decimalIn 4 n ≡ decimalIn 2 n
+    by (yes a) d = rw (lt-ltb n 10 a)
+    by (no a) (yes b) = let l : 10 ≤ n = omega arith in rw (le-ltb n 10 l, lt-ltb (n / 10) 10 b)
+    by (no a) (no b) =
+        let l : 10 ≤ n = omega arith in
+        let m : 10 ≤ n / 10 = omega arith in
+        let k : n / 10 / 10 < 10 = omega arith in
+        rw (le-ltb n 10 l, le-ltb (n / 10) 10 m, lt-ltb (n / 10 / 10) 10 k)
+
+-- a number of four or five digits, by its hundreds
+pub decimal-more : (n : ℕ) → 1000 ≤ n → n < 100000 → decimal (n / 100) ++ ((48 + n / 10 % 10) ∷ (48 + n % 10) ∷ []) ≡ decimal n
+unfolding decimal
+decimal-more n g h =
+    let e : n / 10 / 10 ≡ n / 100 = omega arith in
+    sym (decimal-large 3 n (omega arith) ∙ rw (decimal-large 2 (n / 10) (omega arith), e, append-assoc, decimal-three-most (n / 100) (omega arith)))
 
 -- ---- a text put at the start of a lent buffer
 pub overlaid-all : (t b a : List ℕ) (e : ℕ) → length t ≤ length b → Wrote b 0 t a e → a ≡ overlaid t b

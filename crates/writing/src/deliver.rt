@@ -28,12 +28,12 @@ pub fn deliver(text: &[u8], buf: &mut [u8]) -> Bytes
     Bytes::Count(n)
 }
 
-// The three lines of a refusal. A line number is below 1000 in every refusal of a file, and 0 in every other one.
+// The three lines of a refusal.
 pub fn deliver_refusal(refusal: Refusal, buf: &mut [u8]) -> Bytes
-    requires { ⌜ refusal .line < 1000 ⌝ }
+    requires { ⌜ refusal .line < 100000 ⌝ }
     ensures delivers { λ r. ⌜ Delivers (refusalText refusal) (now (buf .entry)) (now (buf .exit)) r ⌝ }
 {
-    let mut space = [0u8; 30];
+    let mut space = [0u8; 32];
     let n = crate::line::put_refusal(&mut space, 0, refusal);
     deliver(&space[..n], buf)
 }

@@ -3,7 +3,7 @@ ghost use mathlib.Core.List.{[]};
 ghost use Prim.Native.Nat.{_+_, _≤_, _<_};
 ghost use lib.ListN.{length};
 ghost use Rattle.text.specs.Written.{decimal, writtenLine};
-ghost use Rattle.writing.specs.Lent.{Wrote};
+ghost use Rattle.writing.specs.Lent.{Wrote, numberRoom};
 ghost use Rattle.writing.specs.Refusal.{refusalText};
 use crate::put::put;
 use crate::put::put_byte;
@@ -20,11 +20,11 @@ pub fn put_text_line(buf: &mut [u8], at: usize, key: &[u8], value: &[u8]) -> usi
     put_byte(buf, c, b'\n')
 }
 
-// A value of at most three digits.
-pub fn put_number_line(buf: &mut [u8], at: usize, key: &[u8], n: u16) -> usize
-    requires { ⌜ (at + length (now key) + 5 ≤ length (now buf)) × (n < 1000) ⌝ }
-    ensures { λ r. ⌜ Wrote (now (buf .entry)) at (writtenLine (now (key .entry)) (decimal n) []) (now (buf .exit)) r ⌝ }
-    ensures { λ r. ⌜ r ≤ at + length (now (key .entry)) + 5 ⌝ }
+// A value of at most five digits.
+pub fn put_number_line(buf: &mut [u8], at: usize, key: &[u8], n: u32) -> usize
+    requires { ⌜ (at + length (now key) + 2 + numberRoom n ≤ length (now buf)) × (n < 100000) ⌝ }
+    ensures text { λ r. ⌜ Wrote (now (buf .entry)) at (writtenLine (now (key .entry)) (decimal n) []) (now (buf .exit)) r ⌝ }
+    ensures room { λ r. ⌜ r ≤ at + length (now (key .entry)) + 2 + numberRoom n ⌝ }
 {
     let a = put(&mut *buf, at, key);
     let b = put_byte(&mut *buf, a, b'=');
@@ -32,15 +32,15 @@ pub fn put_number_line(buf: &mut [u8], at: usize, key: &[u8], n: u16) -> usize
     put_byte(buf, c, b'\n')
 }
 
-// A line number is below 1000 in every refusal of a file, and 0 in every other one.
+// A line of a file has at most five digits in its number, since the file has at most 65,536 bytes.
 pub fn put_refusal(buf: &mut [u8], at: usize, refusal: Refusal) -> usize
-    requires { ⌜ (at + 30 ≤ length (now buf)) × (refusal .line < 1000) ⌝ }
-    ensures { λ r. ⌜ Wrote (now (buf .entry)) at (refusalText refusal) (now (buf .exit)) r ⌝ }
-    ensures { λ r. ⌜ r ≤ at + 30 ⌝ }
+    requires { ⌜ (at + 32 ≤ length (now buf)) × (refusal .line < 100000) ⌝ }
+    ensures text { λ r. ⌜ Wrote (now (buf .entry)) at (refusalText refusal) (now (buf .exit)) r ⌝ }
+    ensures room { λ r. ⌜ r ≤ at + 32 ⌝ }
 {
     let reason = refusal.reason;
     let number = tables::refusal::reason_number(reason);
-    let a = put_number_line(&mut *buf, at, b"refused", number as u16);
-    let b = put_number_line(&mut *buf, a, b"file", refusal.file as u16);
-    put_number_line(buf, b, b"line", refusal.line as u16)
+    let a = put_number_line(&mut *buf, at, b"refused", number as u32);
+    let b = put_number_line(&mut *buf, a, b"file", refusal.file as u32);
+    put_number_line(buf, b, b"line", refusal.line as u32)
 }

@@ -32,9 +32,9 @@ pub fn put_normal(buf: &mut [u8], form: NormalForm) -> usize
     ensures { λ r. ⌜ Wrote (now (buf .entry)) 0 (writtenNormal form) (now (buf .exit)) r ⌝ }
 {
     let a = put(&mut *buf, 0, b"format=1\nsignals=");
-    let b = put_number(&mut *buf, a, form.signals as u16);
+    let b = put_number(&mut *buf, a, form.signals as u32);
     let c = put(&mut *buf, b, b"\nrows=");
-    let d = put_number(&mut *buf, c, form.rows as u16);
+    let d = put_number(&mut *buf, c, form.rows as u32);
     let e = put_byte(&mut *buf, d, b'\n');
     put_rows(buf, e, form)
 }

@@ -30,7 +30,7 @@ fn put_operand(buf: &mut [u8], at: usize, a: u8) -> usize
     ensures { λ r. ⌜ r ≤ at + 4 ⌝ }
 {
     let i = put_byte(&mut *buf, at, b' ');
-    put_number(buf, i, a as u16)
+    put_number(buf, i, a as u32)
 }
 
 fn put_row(buf: &mut [u8], at: usize, row: Row) -> usize
@@ -57,7 +57,7 @@ pub fn put_row_line(buf: &mut [u8], at: usize, number: u8, row: Row) -> usize
     ensures { λ r. ⌜ r ≤ at + 22 ⌝ }
 {
     let a = put_byte(&mut *buf, at, b'r');
-    let b = put_number(&mut *buf, a, number as u16);
+    let b = put_number(&mut *buf, a, number as u32);
     let c = put_byte(&mut *buf, b, b'=');
     let d = put_row(&mut *buf, c, row);
     put_byte(buf, d, b'\n')

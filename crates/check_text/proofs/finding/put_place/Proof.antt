@@ -1,4 +1,5 @@
 use mathlib.Core.Path.{subst}
+use native.Mathlib.Omega.{arith}
 use Rattle.tables.specs.Bytes.{bytes}
 use Rattle.text.specs.Written.{decimal}
 use Rattle.writing.proofs.Texts.{wrote-none, wrote-line}
@@ -8,7 +9,10 @@ use Rattle.check_text.proofs.finding.put_place.Statement.{statement}
 use Rattle.check_text.proofs.finding.put_place.Tie as tie
 
 put-number-line-requires-2 : tie.Need-put-number-line-requires-2
-put-number-line-requires-2 c κs = (search needs, subst (CycleBelow 1000) (c .before .before .before .before .before .before .before .before .finding .given .1) (c .before .before .before .before .before .before .before .before .before .before .before .pre .1))
+put-number-line-requires-2 c κs =
+    let told = c .before .before .before .before .before .before .before .before in
+    let small = subst (CycleBelow 1000) (told .finding .given .1) (told .before .before .before .pre .1) in
+    omega (arith, small, told .before .before .before .pre .0)
 
 returns : tie.Need-returns
 returns c = rw (c .enum-told .given .1) (wrote-none _ _)
@@ -34,6 +38,7 @@ put-place-spec =
     (λ c. search needs)
     (λ c. search needs)
     (λ c κs. search needs)
+    (λ c. search needs)
     (λ c. search needs)
     put-number-line-requires-2
     (λ c. search needs)

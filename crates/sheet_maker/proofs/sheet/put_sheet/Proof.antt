@@ -8,7 +8,14 @@ use Rattle.sheet_maker.proofs.sheet.put_sheet.Tie as tie
 
 returns : tie.Need-returns
 unfolding writtenSheet
-returns c = wrote-line (bytes "format") (decimal _) (c .before .before .before .before .before .before .before .before .before .before .before .before .before .before .before .before .before .put-number-line .ensures .0) (wrote-line (bytes "rows") (decimal _) (c .before .before .before .before .before .before .before .before .before .before .before .put-number-line2 .ensures .0) (wrote-line (bytes "cycles") (decimal _) (c .before .before .before .before .before .before .put-number-line3 .ensures .0) (c .before .before .put-rows .ensures)))
+returns c =
+    let rows = c .before .before in
+    let third = rows .before .before .before .before in
+    let second = third .before .before .before .before .before .before in
+    let first = second .before .before .before .before .before .before in
+    wrote-line (bytes "format") (decimal _) (first .put-number-line .ensures .0)
+    (wrote-line (bytes "rows") (decimal _) (second .put-number-line2 .ensures .0)
+    (wrote-line (bytes "cycles") (decimal _) (third .put-number-line3 .ensures .0) (rows .put-rows .ensures)))
 
 pub put-sheet-spec : {M : Type 1} → statement M
 put-sheet-spec =
@@ -19,6 +26,7 @@ put-sheet-spec =
     (λ c. search needs)
     (λ c. search needs)
     (λ c κs. search needs)
+    (λ c. search needs)
     (λ c. search needs)
     (λ c κs. search needs)
     (λ c κs. search needs)

@@ -15,7 +15,7 @@ abbrev μ-loop : tie.MeasureT-loop
 μ-loop body signals cycles ending rest₀ words₀ c₀ rest words c = cycles - c
 
 loop-holds : tie.Need-loop-holds Inv-loop μ-loop
-loop-holds c = cycles-start
+loop-holds c = cycles-start (c .empty .ensures)
 
 returns : tie.Need-returns Inv-loop μ-loop
 returns c = c .refuse .ensures ∙ cycles-wrong (c .before .before .before .before .before .loop .inv) (search needs) (c .before .before .before .digits-line .ensures .0) _ (c .before .enum-told .given .1)
@@ -30,7 +30,11 @@ part-put-cycle-end : tie.Need-part-put-cycle-end Inv-loop μ-loop
 part-put-cycle-end c = omega (arith, digits-within _ _ (c .before .before .before .before .digits-line .ensures .1) (c .before .before .from .given .1))
 
 put-cycle-requires : tie.Need-put-cycle-requires Inv-loop μ-loop
-put-cycle-requires c κs = cycles-room (c .before .before .before .before .before .before .before .loop .inv) (search needs) (c .before .before .before .before .before .digits-line .ensures .0) (c .before .before .before .before .before .digits-line .ensures .1) (c .before .before .before .from .given .1) (c .before .before .before .before .before .before .before .before .before .pre .0) (c .before .before .before .before .before .before .before .before .before .pre .1)
+put-cycle-requires c κs =
+    let from = c .before .before .before in
+    let digits = from .before .before in
+    let start = digits .before .before .before .before .before in
+    cycles-room (digits .before .before .loop .inv) (search needs) (digits .digits-line .ensures .0) (digits .digits-line .ensures .1) (from .from .given .1) (start .pre .0) (start .pre .1)
 
 add-rest : tie.Need-add-rest Inv-loop μ-loop
 add-rest c = omega (arith, digits-within _ _ (c .before .before .before .before .before .before .digits-line .ensures .1) (c .before .before .before .before .from .given .1))
@@ -42,7 +46,12 @@ part-rest-start : tie.Need-part-rest-start Inv-loop μ-loop
 part-rest-start c = omega (arith, digits-within _ _ (c .before .before .before .before .before .before .digits-line .ensures .1) (c .before .before .before .before .from .given .1))
 
 loop-again : tie.Need-loop-again Inv-loop μ-loop
-loop-again c = rw (c .before .put-cycle .ensures, rest-part) (cycles-more (c .before .before .before .before .before .before .before .before .before .loop .inv) (search needs) (c .before .before .before .before .before .before .before .digits-line .ensures .0) (c .before .before .before .before .before .before .before .digits-line .ensures .1) (c .before .before .before .before .before .from .given .1) (c .before .before .before .before .before .before .before .before .before .before .before .pre .0) (c .before .before .before .before .before .before .before .before .before .before .before .pre .1))
+loop-again c =
+    let from = c .before .before .before .before .before in
+    let digits = from .before .before in
+    let start = digits .before .before .before .before .before in
+    rw rest-part
+    (cycles-more (digits .before .before .loop .inv) (search needs) (digits .digits-line .ensures .0) (digits .digits-line .ensures .1) (from .from .given .1) (start .pre .0) (start .pre .1) (c .before .put-cycle .ensures))
 
 returns-2 : tie.Need-returns-2 Inv-loop μ-loop
 returns-2 c = c .refuse2 .ensures ∙ cycles-surplus (c .before .before .before .loop .inv) (search needs) _ (λ z. omega arith)
@@ -56,6 +65,7 @@ read-cycles-spec =
     (tie.spec
     Inv-loop
     μ-loop
+    (λ c κs. search needs)
     loop-holds
     (λ c κs. search needs)
     (λ c. search needs)

@@ -19,8 +19,22 @@ use Rattle.tables.proofs.Places.{length-tabulate, tabulate-getD, getD-tabulate,
 use Rattle.tables.proofs.Bits.{word-ext, word-of}
 use Rattle.tables.proofs.Marks.{lane-none, bit-room, lane-digit}
 use Rattle.text.specs.Digits.{digitsIn}
-use Rattle.take_file.specs.Cycle.{added, cyclePut, RoomAt, laneFrom, lanesFrom}
-use Rattle.take_file.specs.Take.{digit, lanesOf}
+use Rattle.recording.specs.Recording.{digit, lanesOf, wordsOf, Recorded, laneFrom, lanesFrom}
+
+-- what a cycle adds to word i: its bit, where the word has its cycle and the digit of the word's signal is 1 (byte 49)
+abbrev added : List ℕ → ℕ → ℕ → ℕ
+added value cycle i = pick (eqb (i / 32) (cycle / 64)) (pick (eqb (getD value (i % 32) 0) 49) (2 ^ (cycle % 64)) 0) 0
+
+-- the words with one cycle more
+unfoldable pub cyclePut : List ℕ → List ℕ → ℕ → List ℕ
+cyclePut words value cycle = tabulate 128 (λ i. getD words i 0 + added value cycle i)
+
+-- there are 128 words, so many digits and so many cycles have their places, and no word has the bit of this cycle yet
+pub record RoomAt (words : List ℕ) (value : List ℕ) (cycle : ℕ) : Type 0 where
+  pub places : length words ≡ 128
+  pub signals : length value ≤ 32
+  pub cycles : cycle < 256
+  pub unset : (i : ℕ) → i < 128 → i / 32 ≡ cycle / 64 → getD words i 0 + 2 ^ (cycle % 64) < 2 ^ 64
 
 -- ---- the digits of one cycle, one after the other: the first s are put
 pub record PutAt (before value : List ℕ) (cycle s : ℕ) (words : List ℕ) : Type 0 where
@@ -115,10 +129,7 @@ module _ {before value : List ℕ} {cycle s : ℕ} {words : List ℕ} (inv : Put
           goes = a ∙ (ap₂ (λ w x. set w (cycle / 64 * 32 + s) x) (inv .goes) (sym is) ∙ t);
         }
 
--- ---- the cycles, one after the other: word 32 * b + s has the cycles from 64 * b on of signal s
-abbrev pub wordsOf : List (List Bool) → List ℕ
-wordsOf cycles = tabulate 128 (λ i. wordFrom 64 (i / 32 * 64) (λ c. digit cycles c (i % 32)))
-
+-- ---- the cycles, one after the other
 word-none : (n k : ℕ) → wordFrom n k (λ c. false) ≡ 0
 unfolding wordFrom
 word-none zero k = refl
@@ -126,6 +137,7 @@ word-none (suc n) k = rw (word-none n (suc k))
 
 -- the words that the code begins with are those of no cycle
 pub words-none : wordsOf [] ≡ replicate 128 0
+unfolding wordsOf
 words-none = tabulate-ext 128 (λ i. wordFrom 64 (i / 32 * 64) (λ c. false)) (λ i. 0) (λ i h. word-none 64 (i / 32 * 64)) ∙ sym (replicate-tabulate 128 0 0)
 
 -- the word of a cycle gets its bit
@@ -144,22 +156,27 @@ word-digit f c h unset g other = by (g c) (ap (λ (l : Lane). getD (l .words) (c
 
 module _ (done : List (List Bool)) (h : length done < 256) where
   at : (i : ℕ) → i < 128 → getD (wordsOf done) i 0 ≡ wordFrom 64 (i / 32 * 64) (λ c. digit done c (i % 32))
+  unfolding wordsOf
   at i l = getD-tabulate 128 (λ i. wordFrom 64 (i / 32 * 64) (λ c. digit done c (i % 32))) i 0 l
 
   unset : (s : ℕ) → digit done (length done) s ≡ false
   unset s = rw (List·getD-eq-default done [] (le-refl (length done)))
 
-  pub words-room : (value : List ℕ) → length value ≤ 32 → RoomAt (wordsOf done) value (length done)
+  words-length : length (wordsOf done) ≡ 128
+  unfolding wordsOf
+  words-length = length-tabulate 128 0 _
+
+  words-room : (value : List ℕ) → length value ≤ 32 → RoomAt (wordsOf done) value (length done)
   words-room value l =
       record {
-        places = length-tabulate 128 0 _;
+        places = words-length;
         signals = l;
         cycles = h;
         unset = λ i m e. rw (at i m, e, ← word-of (λ c. digit done c (i % 32)) (length done) h) (bit-room (λ c. digit done c (i % 32)) (length done) h (unset (i % 32)));
       }
 
-  pub words-more : (value : List ℕ) → cyclePut (wordsOf done) value (length done) ≡ wordsOf (done ++ (digitsIn value ∷ []))
-  unfolding cyclePut
+  words-more : (value : List ℕ) → cyclePut (wordsOf done) value (length done) ≡ wordsOf (done ++ (digitsIn value ∷ []))
+  unfolding cyclePut wordsOf
   words-more value = tabulate-ext 128 _ _ (λ i l. rw (at i l) (one i (ℕ-discrete (i / 32) (length done / 64))))
     where
       is : (s : ℕ) → digit (done ++ (digitsIn value ∷ [])) (length done) s ≡ eqb (getD value s 0) 49
@@ -177,13 +194,23 @@ module _ (done : List (List Bool)) (h : length done < 256) where
           rw (ne-eqb (i / 32) (length done / 64) n, add-zero)
           (word-ext 64 (i / 32 * 64) (λ c. digit done c (i % 32)) (λ c. digit (done ++ (digitsIn value ∷ [])) c (i % 32)) (λ j a b. sym (old (i % 32) j (λ q. n (omega arith)))))
 
+-- of words that hold so many cycles
+pub recorded-room : {words : List ℕ} (value : List ℕ) {cycle : ℕ} → Recorded words cycle → cycle < 256 → length value ≤ 32 → RoomAt words value cycle
+recorded-room value r h l =
+    rw (r .held, ← r .number) (words-room (r .cycles) (rw (r .number) h) value l)
+
+pub recorded-more : (words value : List ℕ) {after : List ℕ} (cycle : ℕ) → cycle < 256 → after ≡ cyclePut words value cycle
+    → (cs : List (List Bool)) → length cs ≡ cycle → words ≡ wordsOf cs → after ≡ wordsOf (cs ++ (digitsIn value ∷ []))
+recorded-more words value cycle h e cs n held =
+    e ∙ rw (held, ← n) (words-more cs (rw n h) value)
+
 -- ---- the lanes
 four : (f : ℕ → ℕ) → f 0 ∷ f 1 ∷ f 2 ∷ f 3 ∷ [] ≡ tabulate 4 f
 unfolding tabulateFrom
 four f = refl
 
 pub lanes-of-words : (done : List (List Bool)) → lanesFrom (wordsOf done) ≡ lanesOf done
-unfolding lanesFrom laneOf
+unfolding lanesFrom laneOf wordsOf
 lanes-of-words done = tabulate-ext 32 (laneFrom (wordsOf done)) (λ s. laneOf (λ c. digit done c s)) one
   where
     word : (s b p : ℕ) → p < 128 → p / 32 ≡ b → p % 32 ≡ s → getD (wordsOf done) p 0 ≡ wordFrom 64 (b * 64) (λ c. digit done c s)

@@ -1,6 +1,6 @@
 use borrow.Author.Tests.{eq-eqb, ne-eqb}
-use Rattle.take_file.proofs.cycle.digit_bit.Statement.{statement}
-use Rattle.take_file.proofs.cycle.digit_bit.Tie as tie
+use Rattle.recording.proofs.digit_bit.Statement.{statement}
+use Rattle.recording.proofs.digit_bit.Tie as tie
 
 returns : tie.Need-returns
 returns c = rw (eq-eqb _ 49 (c .if1 .taken))

@@ -1,9 +1,9 @@
 use Prim.Native.Nat.{_-_}
 use mathlib.Core.Path.{refl}
 use borrow.Author.Needs.{needs}
-use Rattle.take_file.proofs.Cycles.{LanesAt, lanes-start, lanes-more, lanes-end}
-use Rattle.take_file.proofs.cycle.lanes_from.Statement.{statement}
-use Rattle.take_file.proofs.cycle.lanes_from.Tie as tie
+use Rattle.recording.proofs.Words.{LanesAt, lanes-start, lanes-more, lanes-end}
+use Rattle.recording.proofs.lanes_from.Statement.{statement}
+use Rattle.recording.proofs.lanes_from.Tie as tie
 
 abbrev Inv-loop : tie.InvT-loop
 Inv-loop words lanes₀ s₀ lanes s = LanesAt words s lanes

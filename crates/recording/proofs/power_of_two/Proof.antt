@@ -1,8 +1,8 @@
 use native.Mathlib.Nat.{one-mul, mod-eq-of-lt}
 use lib.Pow.{pow-lt}
 use borrow.Author.Needs.{needs}
-use Rattle.take_file.proofs.cycle.power_of_two.Statement.{statement}
-use Rattle.take_file.proofs.cycle.power_of_two.Tie as tie
+use Rattle.recording.proofs.power_of_two.Statement.{statement}
+use Rattle.recording.proofs.power_of_two.Tie as tie
 
 returns : tie.Need-returns
 returns c = rw (one-mul, mod-eq-of-lt (pow-lt {j = 64} (c .pre)))

@@ -1,0 +1,35 @@
+-- What crates above cite of recordings. Assumes nothing.
+use Prim.Native.Nat.{ℕ, _≤_, _<_}
+use mathlib.Core.Path.{_≡_, refl, ap, _∙_}
+use mathlib.Core.Bool.{Bool, false}
+use mathlib.Core.List.{List, [], _∷_, _++_}
+use lib.ListN.{getD, length, replicate, List·getD-eq-default}
+use Rattle.tables.specs.Bit.{bitAt, laneOf}
+use Rattle.tables.specs.declared.trace.Lane.{Lane}
+use Rattle.tables.proofs.Bits.{bit-of-lane}
+use Rattle.tables.proofs.Places.{getD-tabulate}
+use Rattle.recording.specs.Recording.{digit, lanesOf, wordsOf, Recorded, lanesFrom}
+use Rattle.recording.proofs.Words.{lanes-of-words, lanes-none}
+
+-- nothing is recorded in the words of no cycle
+pub recorded-none : {words : List ℕ} → words ≡ wordsOf [] → Recorded words 0
+recorded-none e = record { cycles = []; number = refl; held = e }
+
+-- THE LANES OF WHAT WAS RECORDED ARE THOSE OF ITS CYCLES
+pub lanes-recorded : {words : List ℕ} (cs : List (List Bool)) → words ≡ wordsOf cs → lanesFrom words ≡ lanesOf cs
+lanes-recorded cs e = ap lanesFrom e ∙ lanes-of-words cs
+
+-- and so many zeros are the lanes of no cycle
+pub lanes-empty : lanesOf [] ≡ replicate 32 (record { words = replicate 4 0 })
+lanes-empty = lanes-none
+
+-- AND NOTHING ELSE: the bit of each cycle and signal is that digit, and 0 behind the last cycle and behind the last signal
+module _ (cs : List (List Bool)) (s c : ℕ) where
+  pub lane-digit : s < 32 → c < 256 → bitAt (getD (lanesOf cs) s (record { words = [] })) c ≡ digit cs c s
+  lane-digit h l = ap (λ (x : Lane). bitAt x c) (getD-tabulate 32 (λ s. laneOf (λ c. digit cs c s)) s (record { words = [] }) h) ∙ bit-of-lane (λ c. digit cs c s) c l
+
+  pub digit-behind : length cs ≤ c → digit cs c s ≡ false
+  digit-behind h = ap (λ ds. getD ds s false) (List·getD-eq-default cs [] h)
+
+  pub digit-beyond : length (getD cs c []) ≤ s → digit cs c s ≡ false
+  digit-beyond h = List·getD-eq-default (getD cs c []) false h
