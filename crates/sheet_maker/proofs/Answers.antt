@@ -5,14 +5,15 @@ use mathlib.Core.Logic.{_↔_}
 use mathlib.Core.Bool.{Bool, true, false}
 use mathlib.Core.List.{List}
 use native.Mathlib.Omega.{arith}
-use Rattle.tables.specs.Bit.{bitAt}
 use Rattle.tables.specs.Only.{TheOnlyPair}
 use Rattle.tables.specs.declared.refusal.Refusal.{Refusal}
 use Rattle.tables.specs.declared.refusal.Outcome.{Outcome}
 use Rattle.tables.specs.declared.refusal.Outcome.the-variants.{Accepted, Refused}
 use Rattle.tables.specs.declared.row.Formula.{Formula}
+use Rattle.tables.specs.declared.row.NormalForm.{NormalForm}
 use Rattle.tables.specs.declared.trace.Activation.{Activation}
 use Rattle.tables.specs.declared.trace.Trace.{Trace}
+use Rattle.tables.specs.Refusal.{andThen}
 use Rattle.tables.proofs.Outcomes.{both-accept}
 use Rattle.rule_file.specs.Valid.{InRange as FormulaInRange}
 use Rattle.rule_file.proofs.Rules.{checked}
@@ -20,11 +21,14 @@ use Rattle.take_file.specs.Valid.{InRange as TraceInRange}
 use Rattle.sheet_file.specs.Written.{writtenSheet}
 use Rattle.meaning.proofs.Readings.{on-and-off}
 use Rattle.normal_form.specs.declared.sign.Sign.the-variants.{Plain}
+use Rattle.normal_form.specs.Form.{InNormalForm}
 use Rattle.normal_form.specs.Numbering.{normalForm}
 use Rattle.normal_form.proofs.Ranges.{form-normal}
-use Rattle.truth.specs.Truth.{laneIn}
-use Rattle.judging.specs.Refusals.{pairOutcome}
-use Rattle.writing.specs.Answer.{writtenAnswer}
+use Rattle.monitors.specs.Sheet.{activatorAt}
+use Rattle.meeting.specs.Meeting.{ownOutcome, meetingOutcome, pairOutcome}
+use Rattle.meeting.specs.declared.Wanted.the-variants.{Either}
+use Rattle.writing.specs.Answer.{writtenAnswer, Delivers}
+use Rattle.writing.specs.declared.answer.Bytes.{Bytes}
 use Rattle.writing.specs.Lent.{overlaid}
 use Rattle.sheet_maker.specs.declared.MakerAnswer.{MakerAnswer}
 use Rattle.sheet_maker.specs.declared.MakerAnswer.the-variants.{None, Refused as MakerRefused}
@@ -42,37 +46,45 @@ module _ (f : Formula) (t : Trace) (before : List ℕ) (after other : List ℕ) 
   answers-once fine (none s p q) (sheet r b again u w) = absurd (s r)
   answers-once fine (none s p q) (none r u w) = (p ∙ sym u, q ∙ sym w)
 
-  makes-on : (o : Outcome) → pairOutcome f t ≡ o → MakesOn o f t before after answer → MakesOn o f t before other reply → (answer ≡ reply) × (after ≡ other)
-  makes-on Accepted e x y = answers-once (checked f (both-accept _ _ e .0)) x y
-  makes-on (Refused why) e x y = (x .0 ∙ sym (y .0), x .1 ∙ sym (y .1))
+  -- whatever checks come before, if what they accept is in range
+  pub makes-once : (o : Outcome) → (o ≡ Accepted → FormulaInRange f) → MakesOn o f t before after answer → MakesOn o f t before other reply → (answer ≡ reply) × (after ≡ other)
+  makes-once Accepted fine x y = answers-once (fine refl) x y
+  makes-once (Refused why) fine x y = (x .0 ∙ sym (y .0), x .1 ∙ sym (y .1))
 
-  pub makes-once : Makes f t before after answer → Makes f t before other reply → (answer ≡ reply) × (after ≡ other)
-  makes-once x y = makes-on (pairOutcome f t) refl x y
+-- tables that are not refused are in range
+pub pair-fine : (f : Formula) (t : Trace) → pairOutcome Either f t ≡ Accepted → FormulaInRange f
+pair-fine f t e = checked f (both-accept _ _ (both-accept _ _ e .0) .0)
 
-pub only-makes : (f : Formula) (t : Trace) (before after : List ℕ) (answer : MakerAnswer) → Makes f t before after answer → TheOnlyPair (Makes f t before) after answer
-only-makes f t before after answer x = record { so = x; only = λ other reply y. let e = makes-once f t before other after reply answer y x in (e .1, e .0) }
+module _ (o : Outcome) (f : Formula) (t : Trace) (before : List ℕ) (fine : o ≡ Accepted → FormulaInRange f) where
+  pub only-makes : (after : List ℕ) (answer : MakerAnswer) → MakesOn o f t before after answer → TheOnlyPair (MakesOn o f t before) after answer
+  only-makes after answer x = record { so = x; only = λ other reply y. let e = makes-once f t before other after reply answer o fine y x in (e .1, e .0) }
 
-module _ (f : Formula) (t : Trace) (before : List ℕ) where
-  pub refused-makes : {why : Refusal} → pairOutcome f t ≡ Refused why → TheOnlyPair (Makes f t before) before (MakerRefused why)
-  refused-makes {why} e = only-makes f t before before (MakerRefused why) (subst⁻¹ (λ o. MakesOn o f t before before (MakerRefused why)) e (refl, refl))
+  pub refused-makes : {why : Refusal} → o ≡ Refused why → TheOnlyPair (MakesOn o f t before) before (MakerRefused why)
+  refused-makes {why} e = only-makes before (MakerRefused why) (subst⁻¹ (λ o. MakesOn o f t before before (MakerRefused why)) e (refl, refl))
 
-  module _ (fine : FormulaInRange f) (range : TraceInRange t) (a : Activation) (made : IsMade (normalForm f Plain) t a) where
-    -- the sheet has room in its table, and its text in the writer's space
-    pub some-rows : 1 ≤ a .rows
-    some-rows = omega (arith, made .rows, form-normal f Plain fine .some-rows)
+  module _ (range : TraceInRange t) (a : Activation) (made : IsMade (normalForm f Plain) t a) (e : o ≡ Accepted) {b : Bool} (bit : b ≡ activatorAt a 0 (a .rows)) where
+    root : (b ≡ true) ↔ Satisfied f t
+    root = subst⁻¹ (λ x. (x ≡ true) ↔ Satisfied f t) (bit ∙ ap (activatorAt a 0) (made .rows)) (made-root f t (fine e) a (range .some-cycles) made)
 
-    pub most-rows : a .rows ≤ 128
-    most-rows = omega (arith, made .rows, form-normal f Plain fine .most-rows)
+    pub sheet-makes : b ≡ true → {after : List ℕ} {bytes : Bytes} {answer : MakerAnswer} → answer ≡ answerOf bytes → Delivers (writtenSheet a) before after bytes → TheOnlyPair (MakesOn o f t before) after answer
+    sheet-makes y {after} {bytes} {answer} p d =
+        only-makes after answer (subst⁻¹ (λ o. MakesOn o f t before after answer) e (sheet (root .0 y) a made (p ∙ ap answerOf (d .answered)) (d .left)))
 
-    pub most-cycles : a .cycles ≤ 256
-    most-cycles = omega (arith, made .cycles, range .most-cycles)
+    pub none-makes : b ≡ false → TheOnlyPair (MakesOn o f t before) before None
+    none-makes n = only-makes before None (subst⁻¹ (λ o. MakesOn o f t before before None) e (none (λ x. on-and-off (root .1 x) n) refl refl))
 
-    module _ (e : pairOutcome f t ≡ Accepted) {b : Bool} (bit : b ≡ bitAt (laneIn (a .lanes) (a .rows - 1)) 0) where
-      root : (b ≡ true) ↔ Satisfied f t
-      root = subst⁻¹ (λ x. (x ≡ true) ↔ Satisfied f t) (bit ∙ ap (λ n. bitAt (laneIn (a .lanes) (n - 1)) 0) (made .rows)) (made-root f t fine a (range .some-cycles) made)
+-- tables that pass their own checks, by those of the two together
+pub met-makes : (f : Formula) (t : Trace) (before : List ℕ) {after : List ℕ} {answer : MakerAnswer} → ownOutcome f t ≡ Accepted
+    → TheOnlyPair (MakesOn (meetingOutcome Either f t) f t before) after answer → TheOnlyPair (Makes f t before) after answer
+met-makes f t before {after} {answer} e x = subst⁻¹ (λ o. TheOnlyPair (MakesOn (andThen o (meetingOutcome Either f t)) f t before) after answer) e x
 
-      pub sheet-makes : b ≡ true → {after : List ℕ} {answer : MakerAnswer} → answer ≡ answerOf (writtenAnswer (writtenSheet a) before) → after ≡ overlaid (writtenSheet a) before → TheOnlyPair (Makes f t before) after answer
-      sheet-makes y {after} {answer} p q = only-makes f t before after answer (subst⁻¹ (λ o. MakesOn o f t before after answer) e (sheet (root .0 y) a made p q))
+-- the sheet has room in its table
+module _ (g : NormalForm) (ok : InNormalForm g) (t : Trace) (range : TraceInRange t) (a : Activation) (made : IsMade g t a) where
+  pub some-rows : 1 ≤ a .rows
+  some-rows = omega (arith, made .rows, ok .some-rows)
 
-      pub none-makes : b ≡ false → TheOnlyPair (Makes f t before) before None
-      none-makes n = only-makes f t before before None (subst⁻¹ (λ o. MakesOn o f t before before None) e (none (λ x. on-and-off (root .1 x) n) refl refl))
+  pub most-rows : a .rows ≤ 128
+  most-rows = omega (arith, made .rows, ok .most-rows)
+
+  pub most-cycles : a .cycles ≤ 256
+  most-cycles = omega (arith, made .cycles, range .most-cycles)

@@ -37,7 +37,8 @@ use Rattle.normal_form.proofs.Demand.{satisfied-alike}
 use Rattle.truth.specs.Truth.{TrueIn}
 use Rattle.truth.proofs.Filling.{told-bits}
 use Rattle.judging.specs.Verdict.{IsKept}
-use Rattle.judging.specs.Refusals.{pairOutcome}
+use Rattle.meeting.specs.Meeting.{pairOutcome}
+use Rattle.meeting.specs.declared.Wanted.the-variants.{Either}
 use Rattle.judging.proofs.Verdicts.{kept-continued}
 use Rattle.monitors.specs.Sheet.{activatorAt, Fits, IsRow, PassesLooped, PassesOpen, PassesIn, Passes}
 use Rattle.monitors.proofs.Facts.{looped-passing-true, looped-true-passing, open-passing-true, open-true-passing}
@@ -184,7 +185,7 @@ module _ (f : Formula) (t : Trace) (fine : FormulaInRange f) (range : TraceInRan
   said (none s p q) e x = s (sheet-exists f t fine range .0 x)
 
   -- "Refusals aside, we write
-  module _ (fine-pair : pairOutcome f t ≡ Accepted) (makes : Makes f t before after answer) where
+  module _ (fine-pair : pairOutcome Either f t ≡ Accepted) (makes : Makes f t before after answer) where
     answers : Answers f t before after answer
     answers = subst (λ o. MakesOn o f t before after answer) fine-pair makes
 

@@ -1,4 +1,5 @@
 pub mod Texts
+pub mod Lengths
 pub mod Sheets
 pub mod Answers
 pub mod ReadBack

@@ -10,7 +10,8 @@ use Rattle.tables.specs.declared.trace.Trace.{Trace}
 use Rattle.sheet_file.specs.Written.{writtenSheet}
 use Rattle.normal_form.specs.declared.sign.Sign.the-variants.{Plain}
 use Rattle.normal_form.specs.Numbering.{normalForm}
-use Rattle.judging.specs.Refusals.{pairOutcome}
+use Rattle.meeting.specs.Meeting.{pairOutcome}
+use Rattle.meeting.specs.declared.Wanted.the-variants.{Either}
 use Rattle.writing.specs.declared.answer.Bytes.{Bytes}
 use Rattle.writing.specs.declared.answer.Bytes.the-variants.{Count, Refused as BytesRefused}
 use Rattle.writing.specs.Answer.{writtenAnswer}
@@ -32,10 +33,11 @@ pub data Answers (f : Formula) (t : Trace) (before after : List ℕ) (answer : M
       → after ≡ overlaid (writtenSheet a) before → Answers f t before after answer
   none : ¬ Satisfied f t → answer ≡ None → after ≡ before → Answers f t before after answer
 
--- "Files go rule, take"; "Then 7 to 10 in order"; a refused call leaves every byte
+-- by the outcome of the checks; a refused call leaves every byte
 abbrev pub MakesOn : Outcome → Formula → Trace → List ℕ → List ℕ → MakerAnswer → Type 0
 MakesOn (Refused why) f t before after answer = (answer ≡ MakerRefused why) × (after ≡ before)
 MakesOn Accepted f t before after answer = Answers f t before after answer
 
+-- "Files go rule, take"; "Then 7 to 10 in order": of any two tables
 abbrev pub Makes : Formula → Trace → List ℕ → List ℕ → MakerAnswer → Type 0
-Makes f t before after answer = MakesOn (pairOutcome f t) f t before after answer
+Makes f t before after answer = MakesOn (pairOutcome Either f t) f t before after answer

@@ -1,2 +1,3 @@
 pub mod Made
+pub mod Length
 pub mod Answer

@@ -1,24 +1,25 @@
 // The sheet maker (01, "Monitors"; demand 3): the activator sheet of a formula and a trace, or `none`.
-use normal_form::sign::Sign;
+use meeting::Wanted;
 use tables::refusal::Outcome;
-use tables::refusal::Reason;
 use tables::refusal::Refusal;
 use tables::row::Formula;
+use tables::row::NormalForm;
 use tables::trace::Activation;
 use tables::trace::Trace;
+use writing::answer::Bytes;
 ghost use mathlib.Core.Path.{_≡_};
 ghost use Prim.Native.Nat.{_≤_};
 ghost use Rattle.tables.specs.Only.{TheOnlyPair};
 ghost use Rattle.rule_file.specs.Valid.{InRange as FormulaInRange};
 ghost use Rattle.take_file.specs.Valid.{InRange as TraceInRange};
 ghost use Rattle.sheet_file.specs.Written.{writtenSheet};
-ghost use Rattle.normal_form.specs.Numbering.{normalForm};
-ghost use Rattle.normal_form.specs.declared.sign.Sign.the-variants.{Plain};
-ghost use Rattle.judging.specs.Refusals.{pairOutcome};
-ghost use Rattle.writing.specs.Answer.{writtenAnswer};
-ghost use Rattle.writing.specs.Lent.{overlaid};
+ghost use Rattle.normal_form.specs.Form.{InNormalForm};
+ghost use Rattle.meeting.specs.Meeting.{meetingOutcome, pairOutcome};
+ghost use Rattle.meeting.specs.declared.Wanted.the-variants.{Either};
+ghost use Rattle.monitors.specs.Sheet.{activatorAt};
+ghost use Rattle.writing.specs.Answer.{Delivers};
 ghost use Rattle.sheet_maker.specs.Made.{IsMade};
-ghost use Rattle.sheet_maker.specs.Answer.{Makes, answerOf};
+ghost use Rattle.sheet_maker.specs.Answer.{Makes, MakesOn, answerOf};
 
 pub mod sheet;
 
@@ -29,12 +30,20 @@ pub enum MakerAnswer {
     Refused(Refusal),
 }
 
-// The rows' truth, as a sheet.
-pub fn truth_sheet(formula: Formula, trace: Trace) -> Activation
-    requires { ⌜ FormulaInRange formula × TraceInRange trace ⌝ }
-    ensures { λ r. ⌜ IsMade (normalForm formula Plain) trace r ⌝ }
+fn maker_answer(bytes: Bytes) -> MakerAnswer
+    ensures answer { λ r. ⌜ r ≡ answerOf bytes ⌝ }
 {
-    let form = normal_form::normal_form(formula, Sign::Plain);
+    match bytes {
+        Bytes::Count(n) => MakerAnswer::Written(n),
+        Bytes::Refused(refusal) => MakerAnswer::Refused(refusal),
+    }
+}
+
+// The rows' truth, as a sheet.
+pub fn truth_sheet(form: NormalForm, trace: Trace) -> Activation
+    requires { ⌜ InNormalForm form × TraceInRange trace ⌝ }
+    ensures made { λ r. ⌜ IsMade form trace r ⌝ }
+{
     let truth = truth::fill::fill(form, trace);
     let lanes = truth.lanes;
     Activation {
@@ -44,43 +53,58 @@ pub fn truth_sheet(formula: Formula, trace: Trace) -> Activation
     }
 }
 
-// The file of a sheet, whole or not at all.
-fn write_sheet(sheet: Activation, buf: &mut [u8]) -> MakerAnswer
-    requires { ⌜ (sheet .rows ≤ 128) × (sheet .cycles ≤ 256) ⌝ }
-    ensures { λ r. ⌜ r ≡ answerOf (writtenAnswer (writtenSheet sheet) (now (buf .entry))) ⌝ }
-    ensures { λ r. ⌜ now (buf .exit) ≡ overlaid (writtenSheet sheet) (now (buf .entry)) ⌝ }
+// Whether a sheet sets its root in the first cycle.
+pub fn sets_root(sheet: Activation) -> bool
+    requires { ⌜ (1 ≤ sheet .rows) × (sheet .rows ≤ 128) ⌝ }
+    ensures root { λ r. ⌜ r ≡ activatorAt sheet 0 (sheet .rows) ⌝ }
 {
-    let mut space = [0u8; 33567];
-    let n = sheet::put_sheet(&mut space, sheet);
-    if writing::put::deliver(&space[..n], buf) {
-        MakerAnswer::Written(n)
-    } else {
-        MakerAnswer::Refused(Refusal {
-            reason: Reason::ShortBuffer,
-            file: 0,
-            line: 0,
-        })
+    let lanes = sheet.lanes;
+    let root = sheet.rows as usize - 1;
+    lanes::lane::bit(lanes[root], 0)
+}
+
+// The file of a sheet, in place.
+pub fn write_sheet(sheet: Activation, buf: &mut [u8]) -> Bytes
+    requires { ⌜ (1 ≤ sheet .rows) × (sheet .rows ≤ 128) × (sheet .cycles ≤ 256) ⌝ }
+    ensures delivers { λ r. ⌜ Delivers (writtenSheet sheet) (now (buf .entry)) (now (buf .exit)) r ⌝ }
+{
+    let n = sheet::sheet_length(sheet.rows, sheet.cycles);
+    if buf.len() < n {
+        return writing::deliver::too_short();
+    }
+    let end = sheet::put_sheet(buf, sheet);
+    Bytes::Count(end)
+}
+
+// The answer to tables that are known to be in range, as those that were read are.
+pub fn make_met(formula: Formula, trace: Trace, buf: &mut [u8]) -> MakerAnswer
+    requires { ⌜ FormulaInRange formula × TraceInRange trace ⌝ }
+    ensures makes { λ r. ⌜ TheOnlyPair (MakesOn (meetingOutcome Either formula trace) formula trace (now (buf .entry))) (now (buf .exit)) r ⌝ }
+{
+    let met = meeting::meet(formula, trace, Wanted::Either);
+    let outcome = met.outcome;
+    match outcome {
+        Outcome::Refused(refusal) => MakerAnswer::Refused(refusal),
+        Outcome::Accepted => {
+            let sheet = truth_sheet(met.form, trace);
+            if sets_root(sheet) {
+                maker_answer(write_sheet(sheet, buf))
+            } else {
+                MakerAnswer::None
+            }
+        }
     }
 }
 
 // SERVICE: the sheet file of the formula's normal form over the trace, if the root is true at the first cycle. Tables that are not
 // refused are in range, as the theorems about sheets ask.
 pub fn make_sheet(formula: Formula, trace: Trace, buf: &mut [u8]) -> MakerAnswer
-    ensures { λ r. ⌜ TheOnlyPair (Makes formula trace (now (buf .entry))) (now (buf .exit)) r ⌝ }
-    ensures { λ r. ⌜ (pairOutcome formula trace ≡ Outcome.Accepted → FormulaInRange formula × TraceInRange trace) ⌝ }
+    ensures makes { λ r. ⌜ TheOnlyPair (Makes formula trace (now (buf .entry))) (now (buf .exit)) r ⌝ }
+    ensures range { λ r. ⌜ (pairOutcome Either formula trace ≡ Outcome.Accepted → FormulaInRange formula × TraceInRange trace) ⌝ }
 {
-    let outcome = judging::check_pair(formula, trace);
-    match outcome {
+    let own = meeting::check_own(formula, trace);
+    match own {
         Outcome::Refused(refusal) => MakerAnswer::Refused(refusal),
-        Outcome::Accepted => {
-            let sheet = truth_sheet(formula, trace);
-            let lanes = sheet.lanes;
-            let root = sheet.rows as usize - 1;
-            if lanes::lane::bit(lanes[root], 0) {
-                write_sheet(sheet, buf)
-            } else {
-                MakerAnswer::None
-            }
-        }
+        Outcome::Accepted => make_met(formula, trace, buf),
     }
 }

@@ -1,4 +1,4 @@
-// The text of a sheet file.
+// The text of a sheet file. Its length is known beforehand, so it is written in place.
 ghost use mathlib.Core.Path.{_≡_};
 ghost use mathlib.Core.List.{[], _∷_};
 ghost use Prim.Native.Nat.{_+_, _≤_};
@@ -9,14 +9,30 @@ ghost use Rattle.tables.specs.Place.{tabulate};
 ghost use Rattle.text.specs.Written.{decimal, digitsText, writtenBody, writtenLine};
 ghost use Rattle.sheet_file.specs.Written.{rowsOf, writtenSheet};
 ghost use Rattle.writing.specs.Lent.{Wrote};
+ghost use Rattle.sheet_maker.specs.Length.{rowsLength, sheetLength};
 use tables::trace::Activation;
 use tables::trace::Lane;
+use writing::length::number_length;
 use writing::line::put_number_line;
 use writing::put::put_byte;
 use writing::put::put_number;
 
+// How many bytes the file of so many rows and cycles has.
+pub fn sheet_length(rows: u8, cycles: u16) -> usize
+    requires { ⌜ (rows ≤ 128) × (cycles ≤ 256) ⌝ }
+    ensures length { λ r. ⌜ r ≡ sheetLength rows cycles ⌝ }
+{
+    let mut n = 23 + number_length(rows as u32) + number_length(cycles as u32);
+    let mut k: u8 = 0;
+    while k < rows {
+        n += number_length(k as u32 + 1) + cycles as usize + 3;
+        k += 1;
+    }
+    n
+}
+
 fn digit(on: bool) -> u8
-    ensures { λ r. ⌜ r ≡ pick on 49 48 ⌝ }
+    ensures digit { λ r. ⌜ r ≡ pick on 49 48 ⌝ }
 {
     if on {
         return b'1';
@@ -26,9 +42,9 @@ fn digit(on: bool) -> u8
 
 // One digit for each cycle.
 fn put_digits(buf: &mut [u8], at: usize, lane: Lane, cycles: u16) -> usize
-    requires { ⌜ (cycles ≤ 256) × (at + 256 ≤ length (now buf)) ⌝ }
-    ensures { λ r. ⌜ Wrote (now (buf .entry)) at (digitsText (tabulate cycles (bitAt lane))) (now (buf .exit)) r ⌝ }
-    ensures { λ r. ⌜ r ≤ at + 256 ⌝ }
+    requires { ⌜ (cycles ≤ 256) × (at + cycles ≤ length (now buf)) ⌝ }
+    ensures text { λ r. ⌜ Wrote (now (buf .entry)) at (digitsText (tabulate cycles (bitAt lane))) (now (buf .exit)) r ⌝ }
+    ensures room { λ r. ⌜ r ≤ at + cycles ⌝ }
 {
     let count = cycles as usize;
     let mut i = at;
@@ -43,10 +59,10 @@ fn put_digits(buf: &mut [u8], at: usize, lane: Lane, cycles: u16) -> usize
 
 // The line of row `number`.
 fn put_row(buf: &mut [u8], at: usize, number: u8, lane: Lane, cycles: u16) -> usize
-    requires { ⌜ (cycles ≤ 256) × (at + 262 ≤ length (now buf)) ⌝ }
-    ensures { λ r. ⌜ Wrote (now (buf .entry)) at (writtenLine (122 ∷ decimal number) (digitsText (tabulate cycles (bitAt lane))) [])
+    requires { ⌜ (cycles ≤ 256) × (at + (length (decimal number) + cycles + 3) ≤ length (now buf)) ⌝ }
+    ensures text { λ r. ⌜ Wrote (now (buf .entry)) at (writtenLine (122 ∷ decimal number) (digitsText (tabulate cycles (bitAt lane))) [])
         (now (buf .exit)) r ⌝ }
-    ensures { λ r. ⌜ r ≤ at + 262 ⌝ }
+    ensures place { λ r. ⌜ r ≡ at + (length (decimal number) + cycles + 3) ⌝ }
 {
     let a = put_byte(&mut *buf, at, b'z');
     let b = put_number(&mut *buf, a, number as u32);
@@ -57,8 +73,8 @@ fn put_row(buf: &mut [u8], at: usize, number: u8, lane: Lane, cycles: u16) -> us
 
 // The lines of all rows.
 fn put_rows(buf: &mut [u8], at: usize, sheet: Activation) -> usize
-    requires { ⌜ (sheet .rows ≤ 128) × (sheet .cycles ≤ 256) × (at + 33536 ≤ length (now buf)) ⌝ }
-    ensures { λ r. ⌜ Wrote (now (buf .entry)) at (writtenBody 122 digitsText 1 (rowsOf sheet)) (now (buf .exit)) r ⌝ }
+    requires { ⌜ (sheet .rows ≤ 128) × (sheet .cycles ≤ 256) × (at + rowsLength (sheet .cycles) (sheet .rows) ≤ length (now buf)) ⌝ }
+    ensures text { λ r. ⌜ Wrote (now (buf .entry)) at (writtenBody 122 digitsText 1 (rowsOf sheet)) (now (buf .exit)) r ⌝ }
 {
     let mut i = at;
     let mut k: u8 = 0;
@@ -72,8 +88,9 @@ fn put_rows(buf: &mut [u8], at: usize, sheet: Activation) -> usize
 
 // The whole file, at the buffer's start.
 pub fn put_sheet(buf: &mut [u8], sheet: Activation) -> usize
-    requires { ⌜ (sheet .rows ≤ 128) × (sheet .cycles ≤ 256) × (33567 ≤ length (now buf)) ⌝ }
-    ensures { λ r. ⌜ Wrote (now (buf .entry)) 0 (writtenSheet sheet) (now (buf .exit)) r ⌝ }
+    requires { ⌜ (1 ≤ sheet .rows) × (sheet .rows ≤ 128) × (sheet .cycles ≤ 256) ⌝ }
+    requires { ⌜ sheetLength (sheet .rows) (sheet .cycles) ≤ length (now buf) ⌝ }
+    ensures text { λ r. ⌜ Wrote (now (buf .entry)) 0 (writtenSheet sheet) (now (buf .exit)) r ⌝ }
 {
     let a = put_number_line(&mut *buf, 0, b"format", 1);
     let b = put_number_line(&mut *buf, a, b"rows", sheet.rows as u32);

@@ -79,6 +79,18 @@ decimal-more n g h =
     let e : n / 10 / 10 ≡ n / 100 = omega arith in
     sym (decimal-large 3 n (omega arith) ∙ rw (decimal-large 2 (n / 10) (omega arith), e, append-assoc, decimal-three-most (n / 100) (omega arith)))
 
+pub decimal-more-length : (n : ℕ) → 1000 ≤ n → n < 100000 → length (decimal (n / 100)) + 2 ≡ length (decimal n)
+decimal-more-length n g h = sym (length-append (decimal (n / 100)) ((48 + n / 10 % 10) ∷ (48 + n % 10) ∷ [])) ∙ ap length (decimal-more n g h)
+
+-- a number has a digit
+pub decimal-some : (n : ℕ) → 1 ≤ length (decimal n)
+unfolding decimal decimalIn
+decimal-some n = by (decLt n 10)
+  where
+    by : Dec (n < 10) → 1 ≤ length (decimal n)
+    by (yes a) = rw (lt-ltb n 10 a) (omega arith)
+    by (no a) = let l : 10 ≤ n = omega arith in rw (le-ltb n 10 l, length-append) (omega arith)
+
 -- ---- a text put at the start of a lent buffer
 pub overlaid-all : (t b a : List ℕ) (e : ℕ) → length t ≤ length b → Wrote b 0 t a e → a ≡ overlaid t b
 unfolding overlaid
