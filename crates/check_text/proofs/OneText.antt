@@ -3,7 +3,6 @@ use Prim.Native.Nat.{ℕ}
 use mathlib.Core.Path.{_≡_, sym, ap, _∙_}
 use mathlib.Core.List.{List}
 use Rattle.tables.specs.Only.{TheOnlyPair}
-use Rattle.tables.specs.Refusal.{andThen}
 use Rattle.tables.specs.declared.refusal.Outcome.{Outcome}
 use Rattle.tables.specs.declared.refusal.Outcome.the-variants.{Accepted, Refused}
 use Rattle.tables.specs.declared.row.Formula.{Formula}
@@ -15,23 +14,23 @@ use Rattle.rule_file.specs.Rule.{parseRule}
 use Rattle.take_file.specs.Take.{parseTake}
 use Rattle.sheet_file.specs.Sheet.{parseSheet}
 use Rattle.writing.specs.declared.answer.Bytes.{Bytes}
-use Rattle.writing.specs.Answer.{writtenAnswer}
-use Rattle.writing.specs.Lent.{overlaid}
-use Rattle.checking.specs.Answer.{sevenOutcome, nineOutcome}
+use Rattle.checking.specs.Answer.{metOutcome}
 use Rattle.check_text.specs.Text.{findingText}
-use Rattle.check_text.specs.Answer.{IsOutcomeText, IsCheckText, Prints}
+use Rattle.writing.specs.Refusal.{Told}
+use Rattle.writing.proofs.Answers.{only-printed}
+use Rattle.check_text.specs.Answer.{IsFindingText, IsCheckText, Prints}
 
 module _ (text other : List ℕ) where
-  one-found : (o : Outcome) (f : Formula) (t : Trace) (a : Activation) → IsOutcomeText o f t a text → IsOutcomeText o f t a other → text ≡ other
-  one-found (Refused why) f t a x y = x ∙ sym y
-  one-found Accepted f t a (v, is, e) (u, also, d) = e ∙ ap findingText (also .only v (is .said)) ∙ sym d
+  one-told : (o : Outcome) (f : Formula) (t : Trace) (a : Activation) → Told o (IsFindingText f t a) text → Told o (IsFindingText f t a) other → text ≡ other
+  one-told (Refused why) f t a x y = x ∙ sym y
+  one-told Accepted f t a (v, is, e) (u, also, d) = e ∙ ap findingText (also .only v (is .said)) ∙ sym d
 
   pub one-text : (p : Result Formula) (q : Result Trace) (s : Result Activation) → IsCheckText p q s text → IsCheckText p q s other → text ≡ other
   one-text (refused e n) q s x y = x ∙ sym y
   one-text (accepted f) (refused e n) s x y = x ∙ sym y
   one-text (accepted f) (accepted t) (refused e n) x y = x ∙ sym y
-  one-text (accepted f) (accepted t) (accepted a) x y = one-found (andThen (sevenOutcome f t) (nineOutcome f t a)) f t a x y
+  one-text (accepted f) (accepted t) (accepted a) x y = one-told (metOutcome f t a) f t a x y
 
-module _ (rule take sheet before after : List ℕ) (answer : Bytes) where
-  pub only-prints : Prints rule take sheet before after answer → TheOnlyPair (Prints rule take sheet before) after answer
-  only-prints x = record { so = x; only = λ other reply y. let e = one-text (y .text) (x .text) (parseRule rule) (parseTake take) (parseSheet sheet) (y .is-text) (x .is-text) in (y .left ∙ ap (λ text. overlaid text before) e ∙ sym (x .left), y .answered ∙ ap (λ text. writtenAnswer text before) e ∙ sym (x .answered)) }
+pub only-prints : (rule take sheet before after : List ℕ) (answer : Bytes) → Prints rule take sheet before after answer → TheOnlyPair (Prints rule take sheet before) after answer
+only-prints rule take sheet =
+    only-printed (IsCheckText (parseRule rule) (parseTake take) (parseSheet sheet)) (λ s t x y. one-text s t (parseRule rule) (parseTake take) (parseSheet sheet) x y)

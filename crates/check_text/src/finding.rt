@@ -4,9 +4,11 @@ ghost use Prim.Native.Nat.{_+_, _≤_};
 ghost use lib.ListN.{length};
 ghost use Rattle.tables.specs.Bytes.{bytes};
 ghost use Rattle.text.specs.Written.{writtenLine};
+ghost use Rattle.writing.specs.Answer.{Delivers};
 ghost use Rattle.writing.specs.Lent.{Wrote};
 ghost use Rattle.check_text.specs.Text.{CycleBelow, findingPlace, findingText, findingWord};
 use checking::finding::Finding;
+use writing::answer::Bytes;
 use writing::line::put_number_line;
 use writing::line::put_text_line;
 
@@ -41,11 +43,21 @@ fn put_place(buf: &mut [u8], at: usize, finding: Finding) -> usize
 }
 
 // All of them, at the buffer's start.
-pub fn put_finding(buf: &mut [u8], finding: Finding) -> usize
+fn put_finding(buf: &mut [u8], finding: Finding) -> usize
     requires { ⌜ (64 ≤ length (now buf)) × CycleBelow 1000 finding ⌝ }
     ensures { λ r. ⌜ Wrote (now (buf .entry)) 0 (findingText finding) (now (buf .exit)) r ⌝ }
 {
     let word = finding;
     let i = put_word(&mut *buf, word);
     put_place(buf, i, finding)
+}
+
+// The text of a finding, delivered.
+pub fn deliver_finding(finding: Finding, buf: &mut [u8]) -> Bytes
+    requires { ⌜ CycleBelow 1000 finding ⌝ }
+    ensures delivers { λ r. ⌜ Delivers (findingText finding) (now (buf .entry)) (now (buf .exit)) r ⌝ }
+{
+    let mut space = [0u8; 64];
+    let n = put_finding(&mut space, finding);
+    writing::deliver::deliver(&space[..n], buf)
 }

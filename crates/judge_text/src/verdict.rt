@@ -6,10 +6,12 @@ ghost use Rattle.tables.specs.Bytes.{bytes};
 ghost use Rattle.text.specs.Written.{writtenLine};
 ghost use Rattle.take_file.specs.Valid.{Below};
 ghost use Rattle.take_file.specs.Written.{endingText};
+ghost use Rattle.writing.specs.Answer.{Delivers};
 ghost use Rattle.writing.specs.Lent.{Wrote};
 ghost use Rattle.judge_text.specs.Text.{verdictText, verdictWord};
 use judging::verdict::Verdict;
 use tables::trace::Ending;
+use writing::answer::Bytes;
 use writing::line::put_number_line;
 use writing::line::put_text_line;
 
@@ -39,7 +41,7 @@ fn put_word(buf: &mut [u8], at: usize, verdict: Verdict) -> usize
 }
 
 // All five, at the buffer's start.
-pub fn put_verdict(
+fn put_verdict(
     buf: &mut [u8],
     signals: u8,
     rows: u8,
@@ -56,4 +58,21 @@ pub fn put_verdict(
     let c = put_number_line(&mut *buf, b, b"cycles", cycles as u32);
     let d = put_ending(&mut *buf, c, ending);
     put_word(buf, d, verdict)
+}
+
+// The text of a verdict, delivered.
+pub fn deliver_verdict(
+    signals: u8,
+    rows: u8,
+    cycles: u16,
+    ending: Ending,
+    verdict: Verdict,
+    buf: &mut [u8],
+) -> Bytes
+    requires { ⌜ (cycles < 1000) × Below 1000 ending ⌝ }
+    ensures delivers { λ r. ⌜ Delivers (verdictText signals rows cycles ending verdict) (now (buf .entry)) (now (buf .exit)) r ⌝ }
+{
+    let mut space = [0u8; 64];
+    let n = put_verdict(&mut space, signals, rows, cycles, ending, verdict);
+    writing::deliver::deliver(&space[..n], buf)
 }

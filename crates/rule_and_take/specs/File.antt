@@ -37,3 +37,7 @@ pub record WasRead (pair : Pair) : Type 0 where
   pub rule : List ℕ
   pub take : List ℕ
   pub is-read : pair ≡ pairRead (parseRule rule) (parseTake take)
+
+-- what holds of whichever files the pair was read from
+abbrev pub OfRead : Pair → (List ℕ → List ℕ → Type 0) → Type 0
+OfRead pair P = (rule take : List ℕ) → pair ≡ pairRead (parseRule rule) (parseTake take) → P rule take

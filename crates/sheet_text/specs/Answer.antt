@@ -1,10 +1,7 @@
 -- The text of `sheet` for two files. Assumes nothing.
 use Prim.Native.Nat.{ℕ}
 use mathlib.Core.Path.{_≡_}
-use mathlib.Core.Bool.{Bool, true, false}
 use mathlib.Core.List.{List, [], _∷_, _++_}
-use lib.Dec.{eqb}
-use Rattle.tables.specs.Refusal.{numbered}
 use Rattle.tables.specs.Bytes.{bytes}
 use Rattle.tables.specs.Only.{TheOnlyPair}
 use Rattle.tables.specs.declared.row.Formula.{Formula}
@@ -14,14 +11,15 @@ use Rattle.text.specs.Result.{Result}
 use Rattle.rule_file.specs.Rule.{parseRule}
 use Rattle.take_file.specs.Take.{parseTake}
 use Rattle.rule_and_take.specs.declared.Pair.{Pair}
-use Rattle.rule_and_take.specs.File.{OnPair, pairRead}
+use Rattle.rule_and_take.specs.File.{OnPair, OfRead}
 use Rattle.sheet_file.specs.Written.{writtenSheet}
 use Rattle.normal_form.specs.declared.sign.Sign.the-variants.{Plain}
 use Rattle.normal_form.specs.Numbering.{normalForm}
 use Rattle.writing.specs.declared.answer.Bytes.{Bytes}
-use Rattle.writing.specs.Answer.{writtenAnswer}
-use Rattle.writing.specs.Lent.{overlaid}
-use Rattle.writing.specs.Refusal.{refusalText}
+use Rattle.meeting.specs.Meeting.{meetingOutcome}
+use Rattle.meeting.specs.declared.Wanted.the-variants.{Either}
+use Rattle.writing.specs.Answer.{Printed}
+use Rattle.writing.specs.Refusal.{refusalText, Told}
 use Rattle.sheet_maker.specs.Made.{Satisfied, IsMade}
 
 -- the line `none`; 10 is the line feed
@@ -33,28 +31,18 @@ pub data IsMadeText (f : Formula) (t : Trace) (text : List ℕ) : Type 0 where
   sheet : Satisfied f t → (a : Activation) → IsMade (normalForm f Plain) t a → text ≡ writtenSheet a → IsMadeText f t text
   none : ¬ Satisfied f t → text ≡ noneText → IsMadeText f t text
 
--- 7: "Rule and take differ in `signals`", "file and line 0"
-abbrev pub IsPairText : Bool → Formula → Trace → List ℕ → Type 0
-IsPairText true f t text = IsMadeText f t text
-IsPairText false f t text = text ≡ refusalText (record { reason = numbered 7; file = 0; line = 0 })
+-- two tables: what is refused of them together, or what is made
+abbrev pub IsMetText : Formula → Trace → List ℕ → Type 0
+IsMetText f t = Told (meetingOutcome Either f t) (IsMadeText f t)
 
 -- a file that is turned back, or two tables
 abbrev pub IsText : Result Formula → Result Trace → List ℕ → Type 0
-IsText p q text = OnPair p q (λ why. text ≡ refusalText why) (λ f t. IsPairText (eqb (f .signals) (t .signals)) f t text)
+IsText p q text = OnPair p q (λ why. text ≡ refusalText why) (λ f t. IsMetText f t text)
 
 -- the text goes into the buffer whole, or nothing does
-pub record Prints (rule take before after : List ℕ) (answer : Bytes) : Type 0 where
-  pub text : List ℕ
-  pub is-text : IsText (parseRule rule) (parseTake take) text
-  pub answered : answer ≡ writtenAnswer text before
-  pub left : after ≡ overlaid text before
+abbrev pub Prints : List ℕ → List ℕ → List ℕ → List ℕ → Bytes → Type 0
+Prints rule take = Printed (IsText (parseRule rule) (parseTake take))
 
--- the same of tables that were read, one file after the other: it is the text for whichever files they were read from
-abbrev pub IsReadText : Pair → List ℕ → Type 0
-IsReadText pair text =
-    (rule take : List ℕ) → pair ≡ pairRead (parseRule rule) (parseTake take) → IsText (parseRule rule) (parseTake take) text
-
--- what such tables leave in the buffer, and the answer
+-- what tables that were read, one file after the other, leave in the buffer, and the answer: as whichever files they were read from
 abbrev pub PrintsRead : Pair → List ℕ → List ℕ → Bytes → Type 0
-PrintsRead pair before after answer =
-    (rule take : List ℕ) → pair ≡ pairRead (parseRule rule) (parseTake take) → TheOnlyPair (Prints rule take before) after answer
+PrintsRead pair before after answer = OfRead pair (λ rule take. TheOnlyPair (Prints rule take before) after answer)

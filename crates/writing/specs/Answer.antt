@@ -25,7 +25,7 @@ pub record Delivers (text before after : List ℕ) (answer : Bytes) : Type 0 whe
   pub left : after ≡ overlaid text before
 
 -- a print-out: a text of which IsText says what it has to be is delivered
-pub record Prints (IsText : List ℕ → Type 0) (before after : List ℕ) (answer : Bytes) : Type 0 where
+pub record Printed (IsText : List ℕ → Type 0) (before after : List ℕ) (answer : Bytes) : Type 0 where
   pub text : List ℕ
   pub is-text : IsText text
   pub delivered : Delivers text before after answer

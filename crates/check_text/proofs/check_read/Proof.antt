@@ -1,34 +1,33 @@
-use mathlib.Core.Path.{sym, _∙_}
-use lib.Seq.{length-take-le}
-use Rattle.tables.proofs.Choices.{know}
-use Rattle.writing.proofs.Texts.{wrote-within, wrote-start}
-use Rattle.writing.proofs.Answers.{fits-answer, short-answer, text-left}
+use mathlib.Core.Path.{refl}
+use native.Mathlib.Omega.{arith}
+use Rattle.rule_file.specs.Rule.{parseRule}
+use Rattle.take_file.specs.Take.{parseTake}
+use Rattle.rule_and_take.proofs.Files.{pair-refused, pair-read, pair-range, pair-line}
 use Rattle.check_text.proofs.OneText.{only-prints}
 use borrow.Author.Needs.{needs}
 use Rattle.check_text.proofs.check_read.Statement.{statement}
 use Rattle.check_text.proofs.check_read.Tie as tie
 
-array-share-prefix-space : tie.Need-array-share-prefix-space
-array-share-prefix-space c = wrote-within _ _ _ _ (c .before .put-text .ensures .2)
+deliver-refusal-requires : tie.Need-deliver-refusal-requires
+deliver-refusal-requires c κs = omega (arith, pair-line (c .before .before .before .before .before .args .pair) (c .before .before .before .before .before .pre .0) _ (c .before .before .outcome .given .1))
 
-slice-aggregate-deliver : tie.Need-slice-aggregate-deliver
-slice-aggregate-deliver c = sym (length-take-le _ _ (wrote-within _ _ _ _ (c .before .before .put-text .ensures .2)))
+check-third-requires : tie.Need-check-third-requires
+check-third-requires c κs = let r = pair-range (c .before .before .before .before .args .pair) (c .before .before .before .before .pre .0) (c .before .enum-told .given .1) in (r .0, r .1, c .before .before .before .before .pre .1)
 
 returns : tie.Need-returns
-returns c = λ rule take sheet e d. let w = c .before .before .before .before .before .before .before .put-text .ensures in let q = wrote-start _ _ _ _ (w .2) in only-prints rule take sheet _ _ _ (record { text = w .0; is-text = w .1 rule take sheet e d; answered = fits-answer (c .before .before .before .before .before .before .before .before .before .before .args .buf .now) q (sym (length-take-le _ _ (wrote-within _ _ _ _ (w .2)))) (know (c .before .before .before .deliver .ensures .0) (c .if1 .taken)); left = c .before .before .before .deliver .ensures .1 ∙ text-left (c .before .before .before .before .before .before .before .before .before .before .args .buf .now) q })
+returns c = λ rule take e sheet d. only-prints rule take sheet _ _ _ (record { text = _; is-text = pair-refused (parseRule rule) (parseTake take) (c .before .before .before .before .before .before .before .before .args .pair) e _ _ (c .before .before .before .before .before .outcome .given .1) refl; delivered = c .before .before .deliver-refusal .ensures })
 
 returns-2 : tie.Need-returns-2
-returns-2 c = λ rule take sheet e d. let w = c .before .before .before .before .before .before .before .put-text .ensures in let q = wrote-start _ _ _ _ (w .2) in only-prints rule take sheet _ _ _ (record { text = w .0; is-text = w .1 rule take sheet e d; answered = short-answer (c .before .before .before .before .before .before .before .before .before .before .args .buf .now) q (know (c .before .before .before .deliver .ensures .0) (c .if1 .left)); left = c .before .before .before .deliver .ensures .1 ∙ text-left (c .before .before .before .before .before .before .before .before .before .before .args .buf .now) q })
+returns-2 c = λ rule take e sheet d. let x = c .before .before .check-third .ensures sheet d in only-prints rule take sheet _ _ _ (record { text = x .text; is-text = pair-read (parseRule rule) (parseTake take) (c .before .before .before .before .before .before .before .args .pair) e _ _ (c .before .before .before .before .enum-told .given .1) (x .is-text); delivered = x .delivered })
 
 pub check-read-spec : {M : Type 1} → statement M
 check-read-spec =
     tie.close
     (tie.spec
     (λ c. search needs)
-    (λ c κs. search needs)
-    array-share-prefix-space
-    slice-aggregate-deliver
-    (λ c κs. search needs)
+    deliver-refusal-requires
+    (λ c. search needs)
+    check-third-requires
     (λ c. search needs)
     returns
     (λ c. search needs)

@@ -1,0 +1,43 @@
+use Rattle.writing.proofs.Answers.{told-refused, told-accepted}
+use mathlib.Core.Path.{ap}
+use native.Mathlib.Omega.{arith}
+use Rattle.tables.specs.declared.row.NormalForm.{NormalForm}
+use Rattle.tables.proofs.Choices.{know}
+use Rattle.meeting.specs.declared.Wanted.the-variants.{Either}
+use Rattle.meeting.proofs.Laws.{meeting-line}
+use Rattle.judge_text.specs.Text.{verdictText}
+use Rattle.judge_text.specs.Answer.{IsVerdictText}
+use Rattle.judge_text.proofs.Answers.{below-more}
+use borrow.Author.Needs.{needs}
+use Rattle.judge_text.proofs.judge_met.Statement.{statement}
+use Rattle.judge_text.proofs.judge_met.Tie as tie
+
+deliver-refusal-requires : tie.Need-deliver-refusal-requires
+deliver-refusal-requires c κs = omega (arith, meeting-line Either (c .before .before .before .before .before .before .args .formula) (c .before .before .before .before .before .before .args .trace) (know (c .before .before .before .before .meet .ensures .0) (c .before .before .outcome .given .1)))
+
+decide-requires : tie.Need-decide-requires
+decide-requires c κs = (c .before .before .before .meet .ensures .1 (c .before .enum-told .given .1), c .before .before .before .before .before .pre .0, c .before .before .before .before .before .pre .1)
+
+deliver-verdict-requires : tie.Need-deliver-verdict-requires
+deliver-verdict-requires c κs = (omega (arith, c .before .before .before .before .before .before .before .pre .1 .most-cycles), below-more (c .before .before .before .before .before .before .before .args .trace .ending) (c .before .before .before .before .before .before .before .args .trace .cycles) 1000 (omega (arith, c .before .before .before .before .before .before .before .pre .1 .most-cycles)) (c .before .before .before .before .before .before .before .pre .1 .loop))
+
+returns : tie.Need-returns
+returns c = told-refused _ (IsVerdictText (c .before .before .before .before .before .before .before .before .before .args .formula) (c .before .before .before .before .before .before .before .before .before .args .trace)) (know (c .before .before .before .before .before .before .before .meet .ensures .0) (c .before .before .before .before .before .outcome .given .1)) (c .before .before .deliver-refusal .ensures)
+
+returns-2 : tie.Need-returns-2
+returns-2 c = let a = c .before .before .before .before .before .before .before .before .before .before .args in told-accepted _ (IsVerdictText (a .formula) (a .trace)) _ (know (c .before .before .before .before .before .before .before .before .meet .ensures .0) (c .before .before .before .before .before .before .enum-told .given .1)) (c .before .before .before .before .decide .result, c .before .before .before .before .decide .ensures, ap (λ (g : NormalForm). verdictText (a .formula .signals) (g .rows) (a .trace .cycles) (a .trace .ending) (c .before .before .before .before .decide .result)) (c .before .before .before .before .before .before .before .before .meet .ensures .1 (c .before .before .before .before .before .before .enum-told .given .1))) (c .before .before .deliver-verdict .ensures)
+
+pub judge-met-spec : {M : Type 1} → statement M
+judge-met-spec =
+    tie.close
+    (tie.spec
+    (λ c κs. search needs)
+    (λ c. search needs)
+    deliver-refusal-requires
+    (λ c. search needs)
+    decide-requires
+    deliver-verdict-requires
+    (λ c. search needs)
+    returns
+    (λ c. search needs)
+    returns-2)
