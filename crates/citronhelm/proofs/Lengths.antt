@@ -4,7 +4,6 @@ use mathlib.Core.Path.{_≡_, subst⁻¹}
 use mathlib.Core.Bool.{Bool, true, false}
 use mathlib.Core.List.{List, [], _∷_, map}
 use native.Mathlib.Omega.{arith}
-use lib.Dec.{eqb}
 use lib.ListN.{length, take, length-take}
 use Rattle.tables.specs.Bit.{bitAt}
 use Rattle.tables.specs.Bytes.{bytes}
@@ -34,7 +33,12 @@ use Rattle.normal_file.proofs.Lengths.{output-most, decimal-most}
 use Rattle.judging.specs.declared.verdict.Verdict.{Verdict}
 use Rattle.judging.specs.declared.verdict.Verdict.the-variants.{Holds, Breaks, Kept, Broken, Open as Undecided}
 use Rattle.judge_text.specs.Text.{verdictText, verdictWord}
-use Rattle.judge_text.specs.Answer.{IsPairText, IsText}
+use Rattle.meeting.specs.Meeting.{meetingOutcome}
+use Rattle.meeting.specs.declared.Wanted.the-variants.{Either}
+use Rattle.tables.specs.declared.refusal.Outcome.{Outcome}
+use Rattle.tables.specs.declared.refusal.Outcome.the-variants.{Accepted, Refused}
+use Rattle.writing.specs.Refusal.{Told}
+use Rattle.judge_text.specs.Answer.{IsVerdictText, IsText}
 
 -- ---- the text of `judge`: 64 bytes
 
@@ -88,14 +92,14 @@ refusal-most r =
 short-as : {text u : List ℕ} → text ≡ u → length u ≤ 64 → length text ≤ 64
 short-as e h = subst⁻¹ (λ l. length l ≤ 64) e h
 
-pair-most : (b : Bool) (f : Formula) (t : Trace) (text : List ℕ) → IsPairText b f t text → length text ≤ 64
-pair-most true f t text x = short-as (x .2) (verdict-most _ _ _ _ _)
-pair-most false f t text e = short-as e (refusal-most _)
+met-most : (o : Outcome) (f : Formula) (t : Trace) (text : List ℕ) → Told o (IsVerdictText f t) text → length text ≤ 64
+met-most Accepted f t text x = short-as (x .2) (verdict-most _ _ _ _ _)
+met-most (Refused why) f t text e = short-as e (refusal-most _)
 
 pub text-enough : (p : Result Formula) (q : Result Trace) (text : List ℕ) → IsText p q text → length text ≤ 64
 text-enough (refused e n) q text is = short-as is (refusal-most _)
 text-enough (accepted f) (refused e n) text is = short-as is (refusal-most _)
-text-enough (accepted f) (accepted t) text is = pair-most (eqb (f .signals) (t .signals)) f t text is
+text-enough (accepted f) (accepted t) text is = met-most (meetingOutcome Either f t) f t text is
 
 -- ---- the normal form: 2,845 bytes; a step: 384
 module _ (f : Formula) (s : Sign) (ok : InRange f) where

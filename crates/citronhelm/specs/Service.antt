@@ -9,13 +9,17 @@ use Rattle.tables.specs.declared.row.Formula.{Formula}
 use Rattle.tables.specs.declared.trace.Activation.{Activation}
 use Rattle.tables.specs.declared.trace.Trace.{Trace}
 use Rattle.writing.specs.declared.answer.Bytes.{Bytes}
+use Rattle.meeting.specs.Meeting.{meetingOutcome}
+use Rattle.meeting.specs.declared.Wanted.the-variants.{Either}
+use Rattle.writing.specs.Answer.{writtenAnswer}
+use Rattle.writing.specs.Lent.{overlaid}
 use Rattle.judge_text.specs.Answer.{Prints}
 use Rattle.judging.specs.declared.verdict.Answer.{Answer}
-use Rattle.judging.specs.Refusals.{Answers}
+use Rattle.judging.specs.Answer.{Answers}
 use Rattle.sheet_maker.specs.declared.MakerAnswer.{MakerAnswer}
-use Rattle.sheet_maker.specs.Answer.{Makes}
+use Rattle.sheet_maker.specs.Answer.{MakesOn}
 use Rattle.checking.specs.declared.finding.CheckAnswer.{CheckAnswer}
-use Rattle.checking.specs.Answer.{CheckAnswers, checkOutcome}
+use Rattle.checking.specs.Answer.{CheckAnswers, metOutcome}
 use Rattle.answer_code.specs.Code.{bytesCode, checkCode, judgeCode, makerCode, refusalCode}
 
 -- a refused call: its code, and "Output buffers are then untouched"
@@ -28,14 +32,20 @@ pub record JudgedAs (checks : Outcome) (f : Formula) (t : Trace) (r : ℕ) : Typ
   pub answers : TheOnly (Answers checks f t) answer
   pub coded : r ≡ judgeCode answer
 
+-- a text delivered: its length, or 10
+abbrev pub WrittenAs : List ℕ → List ℕ → List ℕ → ℕ → Type 0
+WrittenAs text before after r = (r ≡ bytesCode (writtenAnswer text before)) × (after ≡ overlaid text before)
+
+-- the sheet's length, or `none`, where the two tables meet
 pub record MadeAs (f : Formula) (t : Trace) (before after : List ℕ) (r : ℕ) : Type 0 where
   pub answer : MakerAnswer
-  pub makes : TheOnlyPair (Makes f t before) after answer
+  pub makes : TheOnlyPair (MakesOn (meetingOutcome Either f t) f t before) after answer
   pub coded : r ≡ makerCode answer
 
+-- the finding's code, where the three tables meet
 pub record CheckedAs (f : Formula) (t : Trace) (a : Activation) (r : ℕ) : Type 0 where
   pub answer : CheckAnswer
-  pub answers : TheOnly (CheckAnswers (checkOutcome f t a) f t a) answer
+  pub answers : TheOnly (CheckAnswers (metOutcome f t a) f t a) answer
   pub coded : r ≡ checkCode answer
 
 -- the text of `judge`, or 10

@@ -7,19 +7,21 @@ ghost use Rattle.take_file.specs.Take.{parseTake};
 ghost use Rattle.sheet_file.specs.Sheet.{parseSheet};
 ghost use Rattle.normal_form.specs.Numbering.{normalForm};
 ghost use Rattle.normal_form.specs.declared.sign.Sign.the-variants.{Plain};
-ghost use Rattle.normal_file.specs.Answer.{boundAnswer, normalAnswer, normalLeft};
-ghost use Rattle.judging.specs.Refusals.{loopedOutcome, openOutcome, pairOutcome};
-ghost use Rattle.step.specs.Step.{stepAnswer, stepLeft};
+ghost use Rattle.normal_file.specs.Answer.{boundOf, output as normalText};
+ghost use Rattle.meeting.specs.Meeting.{meetingOutcome};
+ghost use Rattle.meeting.specs.declared.Wanted.the-variants.{Either, Looped, Unlooped};
+ghost use Rattle.step.specs.Step.{formAnswer, formLeft};
 ghost use Rattle.answer_code.specs.Code.{bytesCode, outcomeCode, refusalCode, signOf};
 ghost use Rattle.rule_and_take.specs.File.{OnFile, OnPair};
-ghost use Rattle.citronhelm.specs.Service.{CheckedAs, JudgedAs, MadeAs, PrintedAs, Turned};
+ghost use Rattle.citronhelm.specs.Service.{CheckedAs, JudgedAs, MadeAs, PrintedAs, Turned, WrittenAs};
+use meeting::Wanted;
 use normal_form::sign::Sign;
 use tables::refusal::Outcome;
 
 // Whether a file is a rule file, a take file, a sheet file.
 #[no_mangle]
 pub extern "C" fn citronhelm_read_rule(rule: &[u8]) -> u64
-    ensures { λ r. ⌜ r ≡ outcomeCode (outcomeOf 1 (parseRule (now (rule .entry)))) ⌝ }
+    ensures answer { λ r. ⌜ r ≡ outcomeCode (outcomeOf 1 (parseRule (now (rule .entry)))) ⌝ }
 {
     let read = rule_file::rule::read_rule(rule);
     let outcome = read.outcome;
@@ -28,7 +30,7 @@ pub extern "C" fn citronhelm_read_rule(rule: &[u8]) -> u64
 
 #[no_mangle]
 pub extern "C" fn citronhelm_read_take(take: &[u8]) -> u64
-    ensures { λ r. ⌜ r ≡ outcomeCode (outcomeOf 2 (parseTake (now (take .entry)))) ⌝ }
+    ensures answer { λ r. ⌜ r ≡ outcomeCode (outcomeOf 2 (parseTake (now (take .entry)))) ⌝ }
 {
     let read = take_file::take::read_take(take);
     let outcome = read.outcome;
@@ -37,7 +39,7 @@ pub extern "C" fn citronhelm_read_take(take: &[u8]) -> u64
 
 #[no_mangle]
 pub extern "C" fn citronhelm_read_sheet(sheet: &[u8]) -> u64
-    ensures { λ r. ⌜ r ≡ outcomeCode (outcomeOf 3 (parseSheet (now (sheet .entry)))) ⌝ }
+    ensures answer { λ r. ⌜ r ≡ outcomeCode (outcomeOf 3 (parseSheet (now (sheet .entry)))) ⌝ }
 {
     let read = sheet_file::sheet::read_sheet(sheet);
     let outcome = read.outcome;
@@ -47,20 +49,20 @@ pub extern "C" fn citronhelm_read_sheet(sheet: &[u8]) -> u64
 // A bound on the length of the normal form's file.
 #[no_mangle]
 pub extern "C" fn citronhelm_bound(rule: &[u8]) -> u64
-    ensures { λ r. ⌜ OnFile 1 (parseRule (now (rule .entry))) (λ why. r ≡ refusalCode why) (λ f. r ≡ bytesCode (boundAnswer f)) ⌝ }
+    ensures answer { λ r. ⌜ OnFile 1 (parseRule (now (rule .entry))) (λ why. r ≡ refusalCode why) (λ f. r ≡ boundOf f) ⌝ }
 {
     let read = rule_file::rule::read_rule(rule);
     let outcome = read.outcome;
     match outcome {
         Outcome::Refused(refusal) => answer_code::refusal_code(refusal),
-        Outcome::Accepted => answer_code::bytes_code(normal_file::bound(read.formula)),
+        Outcome::Accepted => normal_file::bound_of(read.formula) as u64,
     }
 }
 
 // How many rows the normal form has.
 #[no_mangle]
 pub extern "C" fn citronhelm_rows(rule: &[u8]) -> u64
-    ensures { λ r. ⌜ OnFile 1 (parseRule (now (rule .entry))) (λ why. r ≡ refusalCode why) (λ f. r ≡ normalForm f Plain .rows) ⌝ }
+    ensures answer { λ r. ⌜ OnFile 1 (parseRule (now (rule .entry))) (λ why. r ≡ refusalCode why) (λ f. r ≡ normalForm f Plain .rows) ⌝ }
 {
     let read = rule_file::rule::read_rule(rule);
     let outcome = read.outcome;
@@ -76,9 +78,8 @@ pub extern "C" fn citronhelm_rows(rule: &[u8]) -> u64
 // The file of the normal form, that of the negated rule where `negated` is not 0.
 #[no_mangle]
 pub extern "C" fn citronhelm_normal(rule: &[u8], negated: u8, output: &mut [u8]) -> u64
-    ensures { λ r. ⌜ OnFile 1 (parseRule (now (rule .entry))) (Turned (now (output .entry)) (now (output .exit)) r)
-        (λ f. (r ≡ bytesCode (normalAnswer f (signOf negated) (now (output .entry))))
-        × (now (output .exit) ≡ normalLeft f (signOf negated) (now (output .entry)))) ⌝ }
+    ensures answer { λ r. ⌜ OnFile 1 (parseRule (now (rule .entry))) (Turned (now (output .entry)) (now (output .exit)) r)
+        (λ f. WrittenAs (normalText f (signOf negated)) (now (output .entry)) (now (output .exit)) r) ⌝ }
 {
     let read = rule_file::rule::read_rule(rule);
     let outcome = read.outcome;
@@ -86,7 +87,7 @@ pub extern "C" fn citronhelm_normal(rule: &[u8], negated: u8, output: &mut [u8])
         Outcome::Refused(refusal) => answer_code::refusal_code(refusal),
         Outcome::Accepted => {
             let sign = answer_code::sign_named(negated);
-            answer_code::bytes_code(normal_file::write_normal(read.formula, sign, output))
+            answer_code::bytes_code(normal_file::write_form(read.formula, sign, output))
         }
     }
 }
@@ -94,50 +95,59 @@ pub extern "C" fn citronhelm_normal(rule: &[u8], negated: u8, output: &mut [u8])
 // The verdict on a rule and a take of either kind; of a looped one; of an open one.
 #[no_mangle]
 pub extern "C" fn citronhelm_judge(rule: &[u8], take: &[u8]) -> u64
-    ensures { λ r. ⌜ OnPair (parseRule (now (rule .entry))) (parseTake (now (take .entry))) (λ why. r ≡ refusalCode why)
-        (λ f t. JudgedAs (pairOutcome f t) f t r) ⌝ }
+    ensures answer { λ r. ⌜ OnPair (parseRule (now (rule .entry))) (parseTake (now (take .entry))) (λ why. r ≡ refusalCode why)
+        (λ f t. JudgedAs (meetingOutcome Either f t) f t r) ⌝ }
 {
     let pair = rule_and_take::read_pair(rule, take);
     let outcome = pair.outcome;
     match outcome {
         Outcome::Refused(refusal) => answer_code::refusal_code(refusal),
-        Outcome::Accepted => answer_code::judge_code(judging::judge(pair.formula, pair.trace)),
+        Outcome::Accepted => answer_code::judge_code(judging::judge_met(
+            pair.formula,
+            pair.trace,
+            Wanted::Either,
+        )),
     }
 }
 
 #[no_mangle]
 pub extern "C" fn citronhelm_judge_looped(rule: &[u8], take: &[u8]) -> u64
-    ensures { λ r. ⌜ OnPair (parseRule (now (rule .entry))) (parseTake (now (take .entry))) (λ why. r ≡ refusalCode why)
-        (λ f t. JudgedAs (loopedOutcome f t) f t r) ⌝ }
+    ensures answer { λ r. ⌜ OnPair (parseRule (now (rule .entry))) (parseTake (now (take .entry))) (λ why. r ≡ refusalCode why)
+        (λ f t. JudgedAs (meetingOutcome Looped f t) f t r) ⌝ }
 {
     let pair = rule_and_take::read_pair(rule, take);
     let outcome = pair.outcome;
     match outcome {
         Outcome::Refused(refusal) => answer_code::refusal_code(refusal),
-        Outcome::Accepted => answer_code::judge_code(judging::judge_looped(
+        Outcome::Accepted => answer_code::judge_code(judging::judge_met(
             pair.formula,
             pair.trace,
+            Wanted::Looped,
         )),
     }
 }
 
 #[no_mangle]
 pub extern "C" fn citronhelm_judge_open(rule: &[u8], take: &[u8]) -> u64
-    ensures { λ r. ⌜ OnPair (parseRule (now (rule .entry))) (parseTake (now (take .entry))) (λ why. r ≡ refusalCode why)
-        (λ f t. JudgedAs (openOutcome f t) f t r) ⌝ }
+    ensures answer { λ r. ⌜ OnPair (parseRule (now (rule .entry))) (parseTake (now (take .entry))) (λ why. r ≡ refusalCode why)
+        (λ f t. JudgedAs (meetingOutcome Unlooped f t) f t r) ⌝ }
 {
     let pair = rule_and_take::read_pair(rule, take);
     let outcome = pair.outcome;
     match outcome {
         Outcome::Refused(refusal) => answer_code::refusal_code(refusal),
-        Outcome::Accepted => answer_code::judge_code(judging::judge_open(pair.formula, pair.trace)),
+        Outcome::Accepted => answer_code::judge_code(judging::judge_met(
+            pair.formula,
+            pair.trace,
+            Wanted::Unlooped,
+        )),
     }
 }
 
 // The text of program `judge`.
 #[no_mangle]
 pub extern "C" fn citronhelm_judge_text(rule: &[u8], take: &[u8], output: &mut [u8]) -> u64
-    ensures { λ r. ⌜ PrintedAs (now (rule .entry)) (now (take .entry)) (now (output .entry)) (now (output .exit)) r ⌝ }
+    ensures answer { λ r. ⌜ PrintedAs (now (rule .entry)) (now (take .entry)) (now (output .entry)) (now (output .exit)) r ⌝ }
 {
     answer_code::bytes_code(judge_text::judge(rule, take, output))
 }
@@ -151,16 +161,17 @@ pub extern "C" fn citronhelm_step(
     signals: &[u8],
     output: &mut [u8],
 ) -> u64
-    ensures { λ r. ⌜ OnFile 1 (parseRule (now (rule .entry))) (Turned (now (output .entry)) (now (output .exit)) r)
-        (λ f. (r ≡ bytesCode (stepAnswer f (now (pendings .entry)) (now (activators .entry)) (now (signals .entry)) (now (output .entry))))
-        × (now (output .exit)
-        ≡ stepLeft f (now (pendings .entry)) (now (activators .entry)) (now (signals .entry)) (now (output .entry)))) ⌝ }
+    ensures answer { λ r. ⌜ OnFile 1 (parseRule (now (rule .entry))) (Turned (now (output .entry)) (now (output .exit)) r)
+        (λ f. (r ≡ bytesCode (formAnswer (normalForm f Plain) (now (pendings .entry)) (now (activators .entry)) (now (signals .entry))
+        (now (output .entry))))
+        × (now (output .exit) ≡ formLeft (normalForm f Plain) (now (pendings .entry)) (now (activators .entry)) (now (signals .entry))
+        (now (output .entry)))) ⌝ }
 {
     let read = rule_file::rule::read_rule(rule);
     let outcome = read.outcome;
     match outcome {
         Outcome::Refused(refusal) => answer_code::refusal_code(refusal),
-        Outcome::Accepted => answer_code::bytes_code(step::step(
+        Outcome::Accepted => answer_code::bytes_code(step::step_met(
             read.formula,
             pendings,
             activators,
@@ -173,14 +184,14 @@ pub extern "C" fn citronhelm_step(
 // The sheet of a rule and a take.
 #[no_mangle]
 pub extern "C" fn citronhelm_make_sheet(rule: &[u8], take: &[u8], output: &mut [u8]) -> u64
-    ensures { λ r. ⌜ OnPair (parseRule (now (rule .entry))) (parseTake (now (take .entry)))
+    ensures answer { λ r. ⌜ OnPair (parseRule (now (rule .entry))) (parseTake (now (take .entry)))
         (Turned (now (output .entry)) (now (output .exit)) r) (λ f t. MadeAs f t (now (output .entry)) (now (output .exit)) r) ⌝ }
 {
     let pair = rule_and_take::read_pair(rule, take);
     let outcome = pair.outcome;
     match outcome {
         Outcome::Refused(refusal) => answer_code::refusal_code(refusal),
-        Outcome::Accepted => answer_code::maker_code(sheet_maker::make_sheet(
+        Outcome::Accepted => answer_code::maker_code(sheet_maker::make_met(
             pair.formula,
             pair.trace,
             output,
@@ -191,7 +202,7 @@ pub extern "C" fn citronhelm_make_sheet(rule: &[u8], take: &[u8], output: &mut [
 // What a check of a sheet finds.
 #[no_mangle]
 pub extern "C" fn citronhelm_check_sheet(rule: &[u8], take: &[u8], sheet: &[u8]) -> u64
-    ensures { λ r. ⌜ OnPair (parseRule (now (rule .entry))) (parseTake (now (take .entry))) (λ why. r ≡ refusalCode why)
+    ensures answer { λ r. ⌜ OnPair (parseRule (now (rule .entry))) (parseTake (now (take .entry))) (λ why. r ≡ refusalCode why)
         (λ f t. OnFile 3 (parseSheet (now (sheet .entry))) (λ why. r ≡ refusalCode why) (λ a. CheckedAs f t a r)) ⌝ }
 {
     let pair = rule_and_take::read_pair(rule, take);
@@ -203,7 +214,7 @@ pub extern "C" fn citronhelm_check_sheet(rule: &[u8], take: &[u8], sheet: &[u8])
             let own = third.outcome;
             match own {
                 Outcome::Refused(refusal) => answer_code::refusal_code(refusal),
-                Outcome::Accepted => answer_code::check_code(checking::check_sheet(
+                Outcome::Accepted => answer_code::check_code(checking::check_met(
                     pair.formula,
                     pair.trace,
                     third.activation,

@@ -2,7 +2,7 @@
 ghost use mathlib.Core.Path.{_≡_};
 ghost use Rattle.rule_file.specs.Valid.{InRange};
 ghost use Rattle.writing.specs.Answer.{Delivers};
-ghost use Rattle.normal_file.specs.Answer.{boundAnswer, normalAnswer, normalLeft, output};
+ghost use Rattle.normal_file.specs.Answer.{boundAnswer, boundOf, normalAnswer, normalLeft, output};
 use normal_form::sign::Sign;
 use tables::refusal::Outcome;
 use tables::row::Formula;
@@ -32,13 +32,20 @@ pub fn write_normal(formula: Formula, sign: Sign, buf: &mut [u8]) -> Bytes
     }
 }
 
-// SERVICE: a bound on the length of the normal form's file, from the number of rows alone.
+// The bound, from the number of rows alone.
+pub fn bound_of(formula: Formula) -> usize
+    ensures bound { λ r. ⌜ r ≡ boundOf formula ⌝ }
+{
+    29 + 44 * (formula.rows as usize)
+}
+
+// SERVICE: a bound on the length of the normal form's file.
 pub fn bound(formula: Formula) -> Bytes
     ensures answer { λ r. ⌜ r ≡ boundAnswer formula ⌝ }
 {
     let outcome = rule_file::check::check_formula(formula);
     match outcome {
         Outcome::Refused(refusal) => Bytes::Refused(refusal),
-        Outcome::Accepted => Bytes::Count(29 + 44 * (formula.rows as usize)),
+        Outcome::Accepted => Bytes::Count(bound_of(formula)),
     }
 }

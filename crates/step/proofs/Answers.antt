@@ -15,7 +15,7 @@ use Rattle.rule_file.specs.Written.{writtenRule}
 use Rattle.normal_form.specs.declared.sign.Sign.the-variants.{Plain}
 use Rattle.normal_form.specs.Numbering.{normalForm}
 use Rattle.writing.specs.declared.answer.Bytes.the-variants.{Count, Refused as BytesRefused}
-use Rattle.step.specs.Step.{formOutcome, formOutput, rowsIn, stepOutcome, stepOutput, stepAnswer, stepLeft}
+use Rattle.step.specs.Step.{formAnswer, formLeft, formOutcome, formOutput, rowsIn, stepOutcome, stepOutput, stepAnswer, stepLeft}
 
 module _ (f : Formula) (p a s buf : List ℕ) where
   -- refused: no byte changes
@@ -34,19 +34,30 @@ module _ (f : Formula) (p a s buf : List ℕ) where
     pub answered-left : stepLeft f p a s buf ≡ stepOutput f p a s ++ drop (3 * rowsIn f) buf
     answered-left = ap (λ o. onOutcome o (λ r. buf) (stepOutput f p a s ++ drop (3 * rowsIn f) buf)) e
 
-  -- the rule's own refusal
-  pub own-refused : {o : Outcome} {r : Refusal} → o ≡ outcomeOf 1 (parseRule (writtenRule f)) → o ≡ Refused r → stepOutcome f p a s buf ≡ Refused r
-  own-refused x y = ap (λ o. andThen o (formOutcome (normalForm f Plain) p a s (length buf))) (sym x ∙ y)
+  -- by the rule's own outcome
+  module _ (own : outcomeOf 1 (parseRule (writtenRule f)) ≡ Accepted) where
+    pub met-answer : stepAnswer f p a s buf ≡ formAnswer (normalForm f Plain) p a s buf
+    met-answer = ap (λ o. onOutcome (andThen o (formOutcome (normalForm f Plain) p a s (length buf))) BytesRefused (Count (3 * rowsIn f))) own
 
-  -- the call's
-  module _ {own : Outcome} (x : own ≡ outcomeOf 1 (parseRule (writtenRule f))) (y : own ≡ Accepted) {g : NormalForm} (form : g ≡ normalForm f Plain) where
-    pub call-outcome : {o : Outcome} → o ≡ formOutcome g p a s (length buf) → stepOutcome f p a s buf ≡ o
-    call-outcome {o} call = ap (λ o. andThen o (formOutcome (normalForm f Plain) p a s (length buf))) (sym x ∙ y) ∙ sym (call ∙ ap (λ h. formOutcome h p a s (length buf)) form)
+    pub met-left : stepLeft f p a s buf ≡ formLeft (normalForm f Plain) p a s buf
+    met-left = ap (λ o. onOutcome (andThen o (formOutcome (normalForm f Plain) p a s (length buf))) (λ r. buf) (stepOutput f p a s ++ drop (3 * rowsIn f) buf)) own
 
-    pub stepped : {o : Outcome} {m : List ℕ} → o ≡ formOutcome g p a s (length buf) → o ≡ Accepted → m ≡ formOutput g p a s ++ drop (3 * g .rows) buf
-        → (Count (3 * g .rows) ≡ stepAnswer f p a s buf) × (m ≡ stepLeft f p a s buf)
-    stepped call ok left =
-        let e : stepOutcome f p a s buf ≡ Accepted = call-outcome call ∙ ok in (
-          ap (λ (h : NormalForm). Count (3 * h .rows)) form ∙ sym (answered-answer e),
-          left ∙ (ap (λ (h : NormalForm). formOutput h p a s ++ drop (3 * h .rows) buf) form ∙ sym (answered-left e)),
-        )
+  pub own-refused : {r : Refusal} → outcomeOf 1 (parseRule (writtenRule f)) ≡ Refused r → stepOutcome f p a s buf ≡ Refused r
+  own-refused own = ap (λ o. andThen o (formOutcome (normalForm f Plain) p a s (length buf))) own
+
+-- the call's own outcome, for the normal form at hand
+module _ (h : NormalForm) (p a s buf : List ℕ) {g : NormalForm} (form : g ≡ h) {o : Outcome} (call : o ≡ formOutcome g p a s (length buf)) where
+  outcome : formOutcome h p a s (length buf) ≡ o
+  outcome = sym (call ∙ ap (λ (x : NormalForm). formOutcome x p a s (length buf)) form)
+
+  pub call-refused-both : {r : Refusal} → o ≡ Refused r → (BytesRefused r ≡ formAnswer h p a s buf) × (buf ≡ formLeft h p a s buf)
+  call-refused-both e = (
+    sym (ap (λ o. onOutcome o BytesRefused (Count (3 * h .rows))) (outcome ∙ e)),
+    sym (ap (λ o. onOutcome o (λ r. buf) (formOutput h p a s ++ drop (3 * h .rows) buf)) (outcome ∙ e)),
+  )
+
+  pub stepped : {m : List ℕ} → o ≡ Accepted → m ≡ formOutput g p a s ++ drop (3 * g .rows) buf → (Count (3 * g .rows) ≡ formAnswer h p a s buf) × (m ≡ formLeft h p a s buf)
+  stepped ok left = (
+    ap (λ (x : NormalForm). Count (3 * x .rows)) form ∙ sym (ap (λ o. onOutcome o BytesRefused (Count (3 * h .rows))) (outcome ∙ ok)),
+    left ∙ (ap (λ (x : NormalForm). formOutput x p a s ++ drop (3 * x .rows) buf) form ∙ sym (ap (λ o. onOutcome o (λ r. buf) (formOutput h p a s ++ drop (3 * h .rows) buf)) (outcome ∙ ok))),
+  )

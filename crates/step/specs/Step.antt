@@ -55,6 +55,13 @@ module _ (g : NormalForm) (pendings activators signals : List ℕ) where
       (andThen (pick (eqb (length pendings) (g .rows) && eqb (length activators) (g .rows)) Accepted (callRefused (numbered 9)))
       (pick (leb (3 * g .rows) room) Accepted (callRefused (numbered 10)))))
 
+  -- the answer and the bytes left, in a buffer `buf`: the first refusal, or three bytes for each row
+  abbrev pub formAnswer : List ℕ → Bytes
+  formAnswer buf = onOutcome (formOutcome (length buf)) Refused (Count (3 * g .rows))
+
+  abbrev pub formLeft : List ℕ → List ℕ
+  formLeft buf = onOutcome (formOutcome (length buf)) (λ r. buf) (formOutput ++ drop (3 * g .rows) buf)
+
 -- ---- the service
 
 -- how many rows a rule's normal form has

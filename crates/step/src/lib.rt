@@ -16,9 +16,12 @@ ghost use Prim.Native.Nat.{_*_, _≤_};
 ghost use lib.ListN.{length, drop};
 ghost use Rattle.meaning.proofs.Rows.{Each, EachSignal};
 ghost use Rattle.monitors.specs.Monitor.{monitor};
+ghost use Rattle.rule_file.specs.Valid.{InRange};
 ghost use Rattle.normal_form.specs.Form.{InNormalForm};
+ghost use Rattle.normal_form.specs.Numbering.{normalForm};
+ghost use Rattle.normal_form.specs.declared.sign.Sign.the-variants.{Plain};
 ghost use Rattle.step.specs.Fitting.{Fitting};
-ghost use Rattle.step.specs.Step.{digitAt, digitOf, formOutcome, formOutput, stepAnswer, stepLeft};
+ghost use Rattle.step.specs.Step.{digitAt, digitOf, formAnswer, formLeft, formOutcome, formOutput, stepAnswer, stepLeft};
 
 // Digit `number` of a slice, counted from 1.
 fn is_on(digits: &[u8], number: usize) -> bool
@@ -105,6 +108,31 @@ fn check_call(
     Outcome::Accepted
 }
 
+// One cycle of the monitors of a formula that is known to be in range, as one that was read is.
+pub fn step_met(
+    formula: Formula,
+    pendings: &[u8],
+    activators: &[u8],
+    signals: &[u8],
+    buf: &mut [u8],
+) -> Bytes
+    requires { ⌜ InRange formula ⌝ }
+    ensures answer { λ r. ⌜ r ≡ formAnswer (normalForm formula Plain) (now (pendings .entry)) (now (activators .entry))
+        (now (signals .entry)) (now (buf .entry)) ⌝ }
+    ensures left { λ r. ⌜ now (buf .exit) ≡ formLeft (normalForm formula Plain) (now (pendings .entry)) (now (activators .entry))
+        (now (signals .entry)) (now (buf .entry)) ⌝ }
+{
+    let form = normal_form::normal_form(formula, Sign::Plain);
+    let call = check_call(form, pendings, activators, signals, buf.len());
+    match call {
+        Outcome::Refused(refusal) => Bytes::Refused(refusal),
+        Outcome::Accepted => {
+            put_outputs(buf, form, pendings, activators, signals);
+            Bytes::Count(3 * (form.rows as usize))
+        }
+    }
+}
+
 // SERVICE: one cycle of the monitors, from each row's pending one cycle earlier, each row's activator and each signal.
 pub fn step(
     formula: Formula,
@@ -113,23 +141,14 @@ pub fn step(
     signals: &[u8],
     buf: &mut [u8],
 ) -> Bytes
-    ensures { λ r. ⌜ r ≡ stepAnswer formula (now (pendings .entry)) (now (activators .entry)) (now (signals .entry)) (now (buf .entry)) ⌝ }
-    ensures { λ r. ⌜ now (buf .exit) ≡ stepLeft formula (now (pendings .entry)) (now (activators .entry)) (now (signals .entry))
+    ensures answer { λ r. ⌜ r ≡ stepAnswer formula (now (pendings .entry)) (now (activators .entry)) (now (signals .entry))
+        (now (buf .entry)) ⌝ }
+    ensures left { λ r. ⌜ now (buf .exit) ≡ stepLeft formula (now (pendings .entry)) (now (activators .entry)) (now (signals .entry))
         (now (buf .entry)) ⌝ }
 {
     let own = rule_file::check::check_formula(formula);
     match own {
         Outcome::Refused(refusal) => Bytes::Refused(refusal),
-        Outcome::Accepted => {
-            let form = normal_form::normal_form(formula, Sign::Plain);
-            let call = check_call(form, pendings, activators, signals, buf.len());
-            match call {
-                Outcome::Refused(refusal) => Bytes::Refused(refusal),
-                Outcome::Accepted => {
-                    put_outputs(buf, form, pendings, activators, signals);
-                    Bytes::Count(3 * (form.rows as usize))
-                }
-            }
-        }
+        Outcome::Accepted => step_met(formula, pendings, activators, signals, buf),
     }
 }

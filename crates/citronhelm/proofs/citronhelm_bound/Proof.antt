@@ -1,7 +1,5 @@
-use mathlib.Core.Path.{ap, _∙_}
 use Rattle.rule_file.specs.Rule.{parseRule}
 use Rattle.rule_file.proofs.Rules.{rule-said, rule-is}
-use Rattle.answer_code.specs.Code.{bytesCode}
 use Rattle.rule_and_take.proofs.Files.{file-refused, file-read}
 use borrow.Author.Needs.{needs}
 use Rattle.citronhelm.proofs.citronhelm_bound.Statement.{statement}
@@ -11,7 +9,7 @@ returns : tie.Need-returns
 returns c = let p = parseRule (c .before .before .before .before .before .before .args .rule .now) in file-refused 1 p _ _ (rule-said p (c .before .before .before .before .read-rule .result) (c .before .before .before .before .read-rule .ensures) (c .before .before .outcome .given .1)) (c .refusal-code .ensures)
 
 returns-2 : tie.Need-returns-2
-returns-2 c = let p = parseRule (c .before .before .before .before .before .before .args .rule .now) in file-read 1 p _ _ (rule-is p (c .before .before .before .before .read-rule .result) (c .before .before .before .before .read-rule .ensures) (c .before .before .enum-told .given .1)) (c .bytes-code .ensures ∙ ap bytesCode (c .before .bound .ensures))
+returns-2 c = let p = parseRule (c .before .before .before .before .before .args .rule .now) in file-read 1 p _ _ (rule-is p (c .before .before .before .read-rule .result) (c .before .before .before .read-rule .ensures) (c .before .enum-told .given .1)) (c .bound-of .ensures)
 
 pub citronhelm-bound-spec : {M : Type 1} → statement M
 citronhelm-bound-spec =
@@ -21,7 +19,6 @@ citronhelm-bound-spec =
     (λ c. search needs)
     (λ c κs. search needs)
     (λ c. search needs)
-    (λ c κs. search needs)
     (λ c κs. search needs)
     returns
     returns-2)

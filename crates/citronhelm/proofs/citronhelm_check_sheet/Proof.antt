@@ -2,10 +2,13 @@ use Rattle.rule_file.specs.Rule.{parseRule}
 use Rattle.take_file.specs.Take.{parseTake}
 use Rattle.sheet_file.specs.Sheet.{parseSheet}
 use Rattle.sheet_file.proofs.Sheets.{sheet-said, sheet-is}
-use Rattle.rule_and_take.proofs.Files.{file-refused, file-read, pair-refused, pair-read}
+use Rattle.rule_and_take.proofs.Files.{file-refused, file-read, pair-refused, pair-read, pair-range}
 use borrow.Author.Needs.{needs}
 use Rattle.citronhelm.proofs.citronhelm_check_sheet.Statement.{statement}
 use Rattle.citronhelm.proofs.citronhelm_check_sheet.Tie as tie
+
+check-met-requires : tie.Need-check-met-requires
+check-met-requires c κs = pair-range (c .before .before .before .before .before .read-pair .result) (record { rule = c .before .before .before .before .before .before .before .before .before .args .rule .now; take = c .before .before .before .before .before .before .before .before .before .args .take .now; is-read = c .before .before .before .before .before .read-pair .ensures }) (c .before .before .before .enum-told .given .1)
 
 returns : tie.Need-returns
 returns c = pair-refused (parseRule (c .before .before .before .before .before .before .before .before .args .rule .now)) (parseTake (c .before .before .before .before .before .before .before .before .args .take .now)) (c .before .before .before .before .read-pair .result) (c .before .before .before .before .read-pair .ensures) _ _ (c .before .before .outcome .given .1) (c .refusal-code .ensures)
@@ -14,7 +17,7 @@ returns-2 : tie.Need-returns-2
 returns-2 c = let s = parseSheet (c .before .before .before .before .before .before .before .before .before .before .before .args .sheet .now) in pair-read (parseRule (c .before .before .before .before .before .before .before .before .before .before .before .args .rule .now)) (parseTake (c .before .before .before .before .before .before .before .before .before .before .before .args .take .now)) (c .before .before .before .before .before .before .before .read-pair .result) (c .before .before .before .before .before .before .before .read-pair .ensures) _ _ (c .before .before .before .before .before .enum-told .given .1) (file-refused 3 s _ _ (sheet-said s (c .before .before .before .before .read-sheet .result) (c .before .before .before .before .read-sheet .ensures) (c .before .before .own .given .1)) (c .refusal-code2 .ensures))
 
 returns-3 : tie.Need-returns-3
-returns-3 c = let s = parseSheet (c .before .before .before .before .before .before .before .before .before .before .before .args .sheet .now) in pair-read (parseRule (c .before .before .before .before .before .before .before .before .before .before .before .args .rule .now)) (parseTake (c .before .before .before .before .before .before .before .before .before .before .before .args .take .now)) (c .before .before .before .before .before .before .before .read-pair .result) (c .before .before .before .before .before .before .before .read-pair .ensures) _ _ (c .before .before .before .before .before .enum-told .given .1) (file-read 3 s _ _ (sheet-is s (c .before .before .before .before .read-sheet .result) (c .before .before .before .before .read-sheet .ensures) (c .before .before .enum-told2 .given .1)) (record { answer = _; answers = c .before .check-sheet .ensures; coded = c .check-code .ensures }))
+returns-3 c = let s = parseSheet (c .before .before .before .before .before .before .before .before .before .before .before .args .sheet .now) in pair-read (parseRule (c .before .before .before .before .before .before .before .before .before .before .before .args .rule .now)) (parseTake (c .before .before .before .before .before .before .before .before .before .before .before .args .take .now)) (c .before .before .before .before .before .before .before .read-pair .result) (c .before .before .before .before .before .before .before .read-pair .ensures) _ _ (c .before .before .before .before .before .enum-told .given .1) (file-read 3 s _ _ (sheet-is s (c .before .before .before .before .read-sheet .result) (c .before .before .before .before .read-sheet .ensures) (c .before .before .enum-told2 .given .1)) (record { answer = _; answers = c .before .check-met .ensures; coded = c .check-code .ensures }))
 
 pub citronhelm-check-sheet-spec : {M : Type 1} → statement M
 citronhelm-check-sheet-spec =
@@ -28,7 +31,7 @@ citronhelm-check-sheet-spec =
     (λ c. search needs)
     (λ c κs. search needs)
     (λ c. search needs)
-    (λ c κs. search needs)
+    check-met-requires
     (λ c κs. search needs)
     returns
     returns-2

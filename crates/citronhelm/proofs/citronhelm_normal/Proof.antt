@@ -1,17 +1,20 @@
 use mathlib.Core.Path.{refl, ap, _∙_}
 use Rattle.rule_file.specs.Rule.{parseRule}
-use Rattle.rule_file.proofs.Rules.{rule-said, rule-is}
+use Rattle.rule_file.proofs.Rules.{rule-said, rule-is, rule-read}
 use Rattle.answer_code.specs.Code.{bytesCode}
 use Rattle.rule_and_take.proofs.Files.{file-refused, file-read}
 use borrow.Author.Needs.{needs}
 use Rattle.citronhelm.proofs.citronhelm_normal.Statement.{statement}
 use Rattle.citronhelm.proofs.citronhelm_normal.Tie as tie
 
+write-form-requires : tie.Need-write-form-requires
+write-form-requires c κs = let p = parseRule (c .before .before .before .before .before .before .before .args .rule .now) in rule-read _ _ (rule-is p (c .before .before .before .before .read-rule .result) (c .before .before .before .before .read-rule .ensures) (c .before .before .enum-told .given .1)) .1 .in-range
+
 returns : tie.Need-returns
 returns c = let p = parseRule (c .before .before .before .before .before .before .before .args .rule .now) in file-refused 1 p _ _ (rule-said p (c .before .before .before .before .read-rule .result) (c .before .before .before .before .read-rule .ensures) (c .before .before .outcome .given .1)) (c .refusal-code .ensures, refl)
 
 returns-2 : tie.Need-returns-2
-returns-2 c = let p = parseRule (c .before .before .before .before .before .before .before .before .before .before .before .args .rule .now) in file-read 1 p _ _ (rule-is p (c .before .before .before .before .before .before .before .before .read-rule .result) (c .before .before .before .before .before .before .before .before .read-rule .ensures) (c .before .before .before .before .before .before .enum-told .given .1)) (rw (← c .before .before .before .before .before .sign-named .ensures) (c .bytes-code .ensures ∙ ap bytesCode (c .before .before .before .write-normal .ensures .0), c .before .before .before .write-normal .ensures .1))
+returns-2 c = let p = parseRule (c .before .before .before .before .before .before .before .before .before .before .before .args .rule .now) in file-read 1 p _ _ (rule-is p (c .before .before .before .before .before .before .before .before .read-rule .result) (c .before .before .before .before .before .before .before .before .read-rule .ensures) (c .before .before .before .before .before .before .enum-told .given .1)) (rw (← c .before .before .before .before .before .sign-named .ensures) (c .bytes-code .ensures ∙ ap bytesCode (c .before .before .before .write-form .ensures .answered), c .before .before .before .write-form .ensures .left))
 
 pub citronhelm-normal-spec : {M : Type 1} → statement M
 citronhelm-normal-spec =
@@ -22,7 +25,7 @@ citronhelm-normal-spec =
     (λ c κs. search needs)
     (λ c. search needs)
     (λ c κs. search needs)
-    (λ c κs. search needs)
+    write-form-requires
     (λ c κs. search needs)
     returns
     (λ c. search needs)

@@ -1,5 +1,8 @@
-use mathlib.Core.Path.{sym}
+use mathlib.Core.Path.{sym, ap, _∙_}
+use Rattle.tables.specs.Refusal.{onOutcome}
 use Rattle.tables.proofs.Choices.{know}
+use Rattle.writing.specs.declared.answer.Bytes.the-variants.{Count, Refused}
+use Rattle.normal_file.specs.Answer.{boundOf}
 use borrow.Author.Needs.{needs}
 use Rattle.normal_file.proofs.bound.Statement.{statement}
 use Rattle.normal_file.proofs.bound.Tie as tie
@@ -8,7 +11,7 @@ returns : tie.Need-returns
 returns c = sym (rw (know (c .before .before .before .check-formula .ensures .0) (c .before .outcome .given .1)))
 
 returns-2 : tie.Need-returns-2
-returns-2 c = sym (rw (know (c .before .before .before .check-formula .ensures .0) (c .before .enum-told .given .1)))
+returns-2 c = ap Count (c .bound-of .ensures) ∙ sym (ap (λ o. onOutcome o Refused (Count (boundOf (c .before .before .before .before .args .formula)))) (know (c .before .before .before .check-formula .ensures .0) (c .before .enum-told .given .1)))
 
 pub bound-spec : {M : Type 1} → statement M
 bound-spec =
@@ -17,8 +20,6 @@ bound-spec =
     (λ c κs. search needs)
     (λ c. search needs)
     (λ c. search needs)
-    (λ c. search needs)
-    (λ c. search needs)
-    (λ c. search needs)
+    (λ c κs. search needs)
     returns
     returns-2)
