@@ -1,6 +1,7 @@
 #!/usr/bin/env bash
-# Crates above the reading layer know a file only by the table it yields: of the reading crates' proofs they may cite the published laws
-# alone (docs/DECISIONS.md, 54).
+# What a crate may cite of another one's proofs (docs/DECISIONS.md, 54). Crates above the reading layer know a file only by the table it
+# yields: of the reading crates' proofs they may cite the published laws alone. And contracts (src) and definitions (specs) cite
+# definitions alone: who reads what has to be believed need not look into proofs.
 set -euo pipefail
 cd "$(dirname "$0")/.."
 reading='text|rule_row|rule_file|take_file|sheet_file'
@@ -8,5 +9,10 @@ others=$(grep -rnE "Rattle·($reading)\.proofs\." crates --include='*.antt' --in
     grep -vE "^crates/($reading|rule_and_take)/|\.proofs\.(Laws|Rules|Takes|Sheets)\." || true)
 if [ -n "$others" ]; then
     printf '%s\n' "$others" "tests/published_laws.sh: these cite how a reader is proved" >&2
+    exit 1
+fi
+proofs=$(grep -rnE "Rattle·[^ ;]*\.proofs\." crates/*/src crates/*/specs || true)
+if [ -n "$proofs" ]; then
+    printf '%s\n' "$proofs" "tests/published_laws.sh: these contracts and definitions cite proofs" >&2
     exit 1
 fi

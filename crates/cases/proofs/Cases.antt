@@ -18,7 +18,7 @@ use Rattle.rule_file.specs.Written.{writtenRule}
 use Rattle.take_file.specs.Ending.{endingValue}
 use Rattle.take_file.specs.Take.{parseTake}
 use Rattle.meaning.specs.Trace.{position}
-use Rattle.meaning.proofs.Streams.{approximant}
+use Rattle.meaning.specs.Approximant.{approximant}
 use Rattle.meaning.proofs.Evaluation.{bitsWithin, bitsOf}
 use Rattle.normal_form.specs.Reach.{markedDown, reach}
 use Rattle.normal_form.specs.Numbering.{listing, normalListing, normalForm}

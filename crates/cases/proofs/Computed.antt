@@ -21,23 +21,24 @@ use Rattle.normal_form.specs.declared.sign.Sign.the-variants.{Plain}
 use Rattle.normal_form.specs.Numbering.{normalForm}
 use Rattle.judging.specs.declared.verdict.Verdict.{Verdict}
 use Rattle.judging.specs.declared.verdict.Answer.the-variants.{Judged}
-use Rattle.judging.specs.Refusals.{pairOutcome, needsLoop, needsNoLoop}
-use Rattle.tables.specs.Refusal.{andThen}
+use Rattle.meeting.specs.Meeting.{eightOutcome, pairOutcome}
+use Rattle.meeting.specs.declared.Wanted.{Wanted}
+use Rattle.meeting.specs.declared.Wanted.the-variants.{Looped, Unlooped}
+use Rattle.tables.proofs.Outcomes.{agree}
 use Rattle.judging.proofs.ByBits.{computedVerdict, verdict-computed, answered}
 use Rattle.writing.specs.Refusal.{refusalText}
 use Rattle.judge_text.specs.Text.{verdictText}
 use Rattle.judge_text.specs.Answer.{IsText}
-use Rattle.judge_text.proofs.Answers.{judged-text}
 use Rattle.checking.specs.declared.finding.Finding.{Finding}
 use Rattle.cases.proofs.ComputedSheets.{ChecksTo, check-computed, MakesTo, make-computed}
 use Rattle.cases.specs.Case.{File, fileBytes, Case, Answered, Says, Each, Each.none, Each.first}
 use Rattle.cases.specs.Case.Case.{normal-form, bound, looped, opened, prints, makes, checks}
 
 -- both files are read, their signals agree, the ending is what the service needs, and the bits give the verdict
-abbrev Judges : (Ending → Outcome) → Verdict → Result Formula → Result Trace → Type 0
-Judges needs v (accepted f) (accepted t) = (f .signals ≡ t .signals) × (needs (t .ending) ≡ Accepted) × (computedVerdict f t ≡ v)
-Judges needs v (accepted f) (refused e n) = ⊥
-Judges needs v (refused e n) q = ⊥
+abbrev Judges : Wanted → Verdict → Result Formula → Result Trace → Type 0
+Judges wanted v (accepted f) (accepted t) = (f .signals ≡ t .signals) × (eightOutcome wanted (t .ending) ≡ Accepted) × (computedVerdict f t ≡ v)
+Judges wanted v (accepted f) (refused e n) = ⊥
+Judges wanted v (refused e n) q = ⊥
 
 -- the same for the text; or the first file that is turned back is told
 abbrev PrintsText : List ℕ → Result Formula → Result Trace → Type 0
@@ -56,24 +57,21 @@ OnThree (refused e n) q r P = ⊥
 abbrev pub Computed : Case → Type 0
 Computed (normal-form rule s out) = Says (normal-form rule s out)
 Computed (bound rule n) = Says (bound rule n)
-Computed (looped rule take v) = Judges needsLoop v (parseRule (fileBytes rule)) (parseTake (fileBytes take))
-Computed (opened rule take v) = Judges needsNoLoop v (parseRule (fileBytes rule)) (parseTake (fileBytes take))
+Computed (looped rule take v) = Judges Looped v (parseRule (fileBytes rule)) (parseTake (fileBytes take))
+Computed (opened rule take v) = Judges Unlooped v (parseRule (fileBytes rule)) (parseTake (fileBytes take))
 Computed (prints rule take text) = PrintsText (fileBytes text) (parseRule (fileBytes rule)) (parseTake (fileBytes take))
 Computed (makes rule take sheet) = OnThree (parseRule (fileBytes rule)) (parseTake (fileBytes take)) (parseSheet (fileBytes sheet)) MakesTo
 Computed (checks rule take sheet x) = OnThree (parseRule (fileBytes rule)) (parseTake (fileBytes take)) (parseSheet (fileBytes sheet)) (λ f t a. ChecksTo f t a x)
 
--- the checks of a service that needs such an ending
-abbrev withEnding : (Ending → Outcome) → Formula → Trace → Outcome
-withEnding needs f t = andThen (pairOutcome f t) (needs (t .ending))
-
 module _ (rule take : File) where
-  judged : (needs : Ending → Outcome) (v : Verdict) (p : Result Formula) (q : Result Trace) → parseRule (fileBytes rule) ≡ p → parseTake (fileBytes take) ≡ q → Judges needs v p q → Answered (withEnding needs) rule take (Judged v)
-  judged needs v (accepted f) (accepted t) fr tr (same, e, c) = rw (fr, tr, ← c) (answered f t (rule-read (fileBytes rule) f fr .1) (take-read (fileBytes take) t tr .1) same e)
-  judged needs v (accepted f) (refused e n) fr tr x = absurd x
-  judged needs v (refused e n) q fr tr x = absurd x
+  judged : (wanted : Wanted) (v : Verdict) (p : Result Formula) (q : Result Trace) → parseRule (fileBytes rule) ≡ p → parseTake (fileBytes take) ≡ q → Judges wanted v p q → Answered (pairOutcome wanted) rule take (Judged v)
+  judged wanted v (accepted f) (accepted t) fr tr (same, e, c) = rw (fr, tr, ← c) (answered f t (rule-read (fileBytes rule) f fr .1) (take-read (fileBytes take) t tr .1) same wanted e)
+  judged wanted v (accepted f) (refused e n) fr tr x = absurd x
+  judged wanted v (refused e n) q fr tr x = absurd x
 
   printed : (text : List ℕ) (p : Result Formula) (q : Result Trace) → parseRule (fileBytes rule) ≡ p → parseTake (fileBytes take) ≡ q → PrintsText text p q → IsText p q text
-  printed text (accepted f) (accepted t) fr tr (same, e) = rw (← e) (judged-text f t same (computedVerdict f t) (verdict-computed f t (rule-read (fileBytes rule) f fr .1 .in-range) (take-read (fileBytes take) t tr .1 .range)) _ refl)
+  printed text (accepted f) (accepted t) fr tr (same, e) =
+      rw (sym (agree (f .signals) (t .signals) same)) (computedVerdict f t, verdict-computed f t (rule-read (fileBytes rule) f fr .1 .in-range) (take-read (fileBytes take) t tr .1 .range), sym e)
   printed text (accepted f) (refused e n) fr tr x = sym x
   printed text (refused e n) q fr tr x = sym x
 
@@ -95,8 +93,8 @@ module _ (rule take sheet : File) where
 pub computed-says : (c : Case) → Computed c → Says c
 computed-says (normal-form rule s out) x = x
 computed-says (bound rule n) x = x
-computed-says (looped rule take v) x = judged rule take needsLoop v _ _ refl refl x
-computed-says (opened rule take v) x = judged rule take needsNoLoop v _ _ refl refl x
+computed-says (looped rule take v) x = judged rule take Looped v _ _ refl refl x
+computed-says (opened rule take v) x = judged rule take Unlooped v _ _ refl refl x
 computed-says (prints rule take text) x = printed rule take (fileBytes text) _ _ refl refl x
 computed-says (makes rule take sheet) x = made rule take sheet _ _ _ refl refl refl x
 computed-says (checks rule take sheet y) x = checked rule take sheet _ _ _ y refl refl refl x

@@ -45,14 +45,15 @@ use Rattle.writing.specs.Answer.{writtenAnswer}
 use Rattle.writing.specs.Lent.{overlaid}
 use Rattle.judging.specs.declared.verdict.Verdict.the-variants.{Holds}
 use Rattle.judging.specs.Verdict.{SaysOf, VerdictOf}
-use Rattle.judging.specs.Refusals.{pairOutcome}
+use Rattle.meeting.specs.Meeting.{pairOutcome}
+use Rattle.meeting.specs.declared.Wanted.the-variants.{Either}
 use Rattle.judging.proofs.ByBits.{computedVerdict, verdict-computed}
 use Rattle.sheet_maker.specs.Made.{SatisfiedIn, Satisfied, IsMade}
 use Rattle.sheet_maker.specs.Answer.{answerOf, Answers.sheet, Makes}
 use Rattle.checking.specs.declared.finding.Finding.{Finding}
 use Rattle.checking.specs.declared.finding.CheckAnswer.the-variants.{Checked}
 use Rattle.checking.specs.Finding.{FindingOf}
-use Rattle.checking.specs.Answer.{tablesOutcome, checkOutcome, CheckAnswers}
+use Rattle.checking.specs.Answer.{checkOutcome, CheckAnswers}
 use Rattle.checking.proofs.Answers.{found-answer}
 use Rattle.checking.proofs.ByReport.{computedFinding, finding-computed}
 
@@ -68,9 +69,10 @@ pub record ChecksTo (f : Formula) (t : Trace) (a : Activation) (x : Finding) : T
 module _ (f : Formula) (t : Trace) (a : Activation) (rule : FormulaValid f) (take : TraceValid t) (sheet : SheetValid a) where
   pub check-computed : (x : Finding) → ChecksTo f t a x → CheckAnswers (checkOutcome f t a) f t a (Checked x)
   check-computed x c =
-      let tables : tablesOutcome f t a ≡ Accepted = rw (rule-written f rule, take-written t take, sheet-written a sheet) (sym (agree (f .signals) (t .signals) (c .signals))) in
       let sizes : (eqb (a .rows) (normalForm f Plain .rows) && eqb (a .cycles) (t .cycles)) ≡ true = rw (eq-eqb (a .rows) (normalForm f Plain .rows) (c .rows), eq-eqb (a .cycles) (t .cycles) (c .cycles)) refl in
-      (found-answer f t a tables sizes x (subst (FindingOf (normalForm f Plain) t a) (c .found) (finding-computed (normalForm f Plain) t a (take .range)))) .so
+      let checks : checkOutcome f t a ≡ Accepted =
+      rw (rule-written f rule, take-written t take, sheet-written a sheet, sym (agree (f .signals) (t .signals) (c .signals)), sizes) refl in
+      (found-answer f t a (checkOutcome f t a) checks x (subst (FindingOf (normalForm f Plain) t a) (c .found) (finding-computed (normalForm f Plain) t a (take .range)))) .so
 
 -- ---- a sheet made, on a looped take
 
@@ -152,5 +154,5 @@ module _ (f : Formula) (t : Trace) (a : Activation) (rule : FormulaValid f) (tak
 
   pub make-computed : (before : List ℕ) → Makes f t before (overlaid (writtenSheet a) before) (answerOf (writtenAnswer (writtenSheet a) before))
   make-computed before =
-      let tables : pairOutcome f t ≡ Accepted = rw (rule-written f rule, take-written t take) (sym (agree (f .signals) (t .signals) (c .signals))) in
+      let tables : pairOutcome Either f t ≡ Accepted = rw (rule-written f rule, take-written t take) (sym (agree (f .signals) (t .signals) (c .signals))) in
       rw tables (sheet satisfied a made refl refl)

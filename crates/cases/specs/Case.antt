@@ -21,7 +21,9 @@ use Rattle.normal_file.specs.Answer.{normalAnswer, normalLeft, boundAnswer}
 use Rattle.judging.specs.declared.verdict.Verdict.{Verdict}
 use Rattle.judging.specs.declared.verdict.Answer.{Answer}
 use Rattle.judging.specs.declared.verdict.Answer.the-variants.{Judged}
-use Rattle.judging.specs.Refusals.{loopedOutcome, openOutcome, Answers}
+use Rattle.meeting.specs.Meeting.{pairOutcome}
+use Rattle.meeting.specs.declared.Wanted.the-variants.{Looped, Unlooped}
+use Rattle.judging.specs.Answer.{Answers}
 use Rattle.judge_text.specs.Answer.{IsText}
 use Rattle.sheet_maker.specs.Answer.{answerOf, Makes}
 use Rattle.checking.specs.declared.finding.Finding.{Finding}
@@ -81,8 +83,8 @@ Answered outcome rule take r = OnRule rule (λ f. OnTake take (λ t. Answers (ou
 abbrev pub Says : Case → Type 0
 Says (normal-form rule s out) = OnRule rule (λ f. Writes f s (fileBytes out))
 Says (bound rule n) = OnRule rule (λ f. boundAnswer f ≡ Count n)
-Says (looped rule take v) = Answered loopedOutcome rule take (Judged v)
-Says (opened rule take v) = Answered openOutcome rule take (Judged v)
+Says (looped rule take v) = Answered (pairOutcome Looped) rule take (Judged v)
+Says (opened rule take v) = Answered (pairOutcome Unlooped) rule take (Judged v)
 Says (prints rule take text) = IsText (parseRule (fileBytes rule)) (parseTake (fileBytes take)) (fileBytes text)
 Says (makes rule take sheet) =
     OnRule rule

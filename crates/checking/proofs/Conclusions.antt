@@ -17,7 +17,8 @@ use Rattle.tables.specs.declared.trace.Trace.{Trace}
 use Rattle.take_file.specs.Valid.{Below as LoopBelow}
 use Rattle.meaning.specs.Trace.{signalAt}
 use Rattle.meaning.specs.Satisfaction.{tableOf}
-use Rattle.meaning.proofs.Rows.{Each, each-signal}
+use Rattle.meaning.specs.Rows.{Each}
+use Rattle.meaning.proofs.Rows.{each-signal}
 use Rattle.meaning.proofs.Periodic.{position-first}
 use Rattle.monitors.specs.declared.Output.{Output}
 use Rattle.monitors.specs.Along.{pendingBefore}

@@ -9,7 +9,7 @@ use borrow.Author.Tests.{lt-ltb}
 use Rattle.tables.specs.Choice.{pick}
 use Rattle.tables.specs.Bit.{wordFrom}
 use Rattle.tables.proofs.Bits.{word-ext}
-use Rattle.meaning.proofs.Streams.{approximant}
+use Rattle.meaning.specs.Approximant.{approximant}
 use Rattle.lanes.specs.Word.{Ends}
 use Rattle.lanes.proofs.Words.{word-and, word-or, word-last}
 use Rattle.lanes.proofs.Windows.{keepTo, goalTo, keep-to-ends, goal-to-ends, window}

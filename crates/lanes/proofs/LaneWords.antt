@@ -13,7 +13,8 @@ use Rattle.tables.specs.Place.{tabulateFrom}
 use Rattle.tables.specs.Bit.{wordFrom, laneOf}
 use Rattle.tables.specs.declared.trace.Lane.{Lane}
 use Rattle.tables.proofs.Bits.{word-ext, lane-ext, OneMore}
-use Rattle.meaning.proofs.Streams.{expand, approximant, approximant-split}
+use Rattle.meaning.specs.Approximant.{expand, approximant}
+use Rattle.meaning.proofs.Streams.{approximant-split}
 use Rattle.lanes.proofs.Words.{word-odd, word-every}
 
 -- the four words of a lane

@@ -9,7 +9,7 @@ use lib.Dec.{ltb, eqb}
 use borrow.Author.Tests.{lt-ltb, le-ltb}
 use Rattle.tables.specs.Bit.{laneOf}
 use Rattle.tables.proofs.Bits.{lane-ext}
-use Rattle.meaning.proofs.Streams.{approximant}
+use Rattle.meaning.specs.Approximant.{approximant}
 use Rattle.lanes.specs.Word.{Ends}
 use Rattle.lanes.proofs.Stretches.{goal-ends}
 use Rattle.lanes.proofs.Windows.{keepTo, goalTo, window}

@@ -4,7 +4,7 @@ use mathlib.Core.Path.{_≡_, refl, sym, ap, ap₂, _∙_, fun-ext}
 use mathlib.Core.Bool.{Bool, true, false, _&&_, _||_}
 use native.Mathlib.Nat.{add-zero}
 use native.Mathlib.Omega.{arith}
-use Rattle.meaning.proofs.Streams.{expand, approximant}
+use Rattle.meaning.specs.Approximant.{expand, approximant}
 use lib.Bits.{bitAnd, bitOr}
 use Rattle.tables.specs.Bit.{wordFrom}
 use Rattle.lanes.specs.Word.{Ends}

@@ -5,7 +5,7 @@ use mathlib.Core.Bool.{Bool, true, false, _&&_, _||_}
 use native.Mathlib.Omega.{arith}
 use lib.Dec.{ltb, eqb}
 use borrow.Author.Tests.{lt-ltb, le-ltb, eq-eqb, ne-eqb}
-use Rattle.meaning.proofs.Streams.{expand, approximant}
+use Rattle.meaning.specs.Approximant.{expand, approximant}
 use Rattle.lanes.specs.Word.{Ends}
 use Rattle.lanes.proofs.Stretches.{goal-ends}
 

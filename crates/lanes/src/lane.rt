@@ -5,7 +5,7 @@ ghost use mathlib.Core.Bool.{Bool, false, not, _&&_, _||_};
 ghost use Prim.Native.Nat.{ℕ, suc, _-_, _≤_, _<_};
 ghost use lib.Dec.{ltb, eqb};
 ghost use Rattle.tables.specs.Bit.{bitAt, laneOf};
-ghost use Rattle.meaning.proofs.Streams.{approximant};
+ghost use Rattle.meaning.specs.Approximant.{approximant};
 ghost use Rattle.lanes.specs.Word.{Ends};
 
 pub fn bit(lane: Lane, cycle: usize) -> bool

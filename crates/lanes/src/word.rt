@@ -5,7 +5,7 @@ ghost use Prim.Native.Nat.{ℕ, suc, _+_, _-_, _/_, _%_, _^_, _<_};
 ghost use lib.Bits.{bitAnd, bitOr};
 ghost use Rattle.tables.specs.Choice.{pick};
 ghost use Rattle.tables.specs.Bit.{wordFrom};
-ghost use Rattle.meaning.proofs.Streams.{approximant};
+ghost use Rattle.meaning.specs.Approximant.{approximant};
 ghost use Rattle.lanes.specs.Word.{Ends};
 
 // For each cycle: `keep` holds for some number of cycles from there on, `goal` is met within that number with keep before it.

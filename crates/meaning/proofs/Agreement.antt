@@ -9,8 +9,8 @@ use Rattle.tables.specs.declared.trace.Trace.{Trace}
 use Rattle.meaning.specs.Reading.{Reading, literal, classical}
 use Rattle.meaning.specs.Trace.{InfiniteTrace, signalAt, unrolled}
 use Rattle.meaning.specs.Satisfaction.{Table, tableOf, RowTrue, Satisfies}
+use Rattle.meaning.specs.Rows.{Ordered}
 use Rattle.meaning.proofs.Readings.{Full, into-full, classical-full, literal-full}
-use Rattle.meaning.proofs.Rows.{Ordered}
 use Rattle.meaning.proofs.Locality.{truth-read}
 use Rattle.meaning.proofs.Lasso.{lasso-readings}
 

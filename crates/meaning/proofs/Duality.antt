@@ -7,8 +7,9 @@ use mathlib.Core.Bool.{Bool, true, false, not}
 use native.Mathlib.Nat.{eq-or-lt-of-le}
 use Rattle.meaning.specs.Reading.{Reading, Either}
 use Rattle.meaning.specs.Operator.{During, Next, Always, Ever, Until, Weak, Srelease, Release}
+use Rattle.meaning.specs.Pattern.{Pattern, Pattern.now, Pattern.next, Pattern.connective, Pattern.temporal}
 use Rattle.meaning.proofs.Readings.{Full, lt-or-le, induction-from}
-use Rattle.meaning.proofs.Pattern.{Pattern, Pattern.now, Pattern.next, Pattern.connective, Pattern.temporal, dualPattern, Keep, Goal, Temporal, Holds}
+use Rattle.meaning.proofs.Pattern.{dualPattern, Keep, Goal, Temporal, Holds}
 use Rattle.meaning.proofs.MeaningByPattern.{srelease-until, release-weak}
 
 -- ---- operands and the dual's operands

@@ -9,13 +9,15 @@ use Rattle.tables.specs.declared.row.Row.{Row}
 use Rattle.meaning.specs.Reading.{Reading}
 use Rattle.meaning.specs.Trace.{InfiniteTrace}
 use Rattle.meaning.specs.Satisfaction.{Table}
+use Rattle.meaning.specs.Rows.{Each, Ordered}
+use Rattle.meaning.specs.Pattern.{Operand.signal, Operand.row, left, right, patternOf, operandBits, signedBit}
 use Rattle.meaning.proofs.Readings.{iff-refl, row-induction, On}
-use Rattle.meaning.proofs.Rows.{Each, each-map, Ordered}
+use Rattle.meaning.proofs.Rows.{each-map}
 use Rattle.meaning.proofs.Truth.{Interprets}
 use Rattle.meaning.proofs.Periodic.{Periodic}
-use Rattle.meaning.proofs.Pattern.{Operand.signal, Operand.row, OperandTrue, PatternMeans, both-operands, left, right, patternOf}
+use Rattle.meaning.proofs.Pattern.{OperandTrue, PatternMeans, both-operands}
 use Rattle.meaning.proofs.MeaningByPattern.{interprets-pattern}
-use Rattle.meaning.proofs.PatternBits.{operandBits, rowBit, patternBit, signedBit, and-iff, signed-iff, signal-iff, pattern-bit-periodic, pattern-bit-is}
+use Rattle.meaning.proofs.PatternBits.{rowBit, patternBit, and-iff, signed-iff, signal-iff, pattern-bit-periodic, pattern-bit-is}
 
 -- each of the rows below n has, at the live cycles, the bit computed from the rows' bits, and 0 at the others
 abbrev pub Computes : (ℕ → Bool) → InfiniteTrace → (ℕ → ℕ) → Table → ℕ → (ℕ → ℕ → Bool) → Type 0

@@ -7,19 +7,20 @@ use mathlib.Core.Logic.{_↔_, _⊎_, inl, inr, Iff·trans}
 use mathlib.Core.Bool.{true, false}
 use native.Mathlib.Nat.{eq-or-lt-of-le}
 use native.Mathlib.Omega.{arith}
-use Rattle.tables.specs.declared.row.ConstantKind.the-variants.{True, False}
-use Rattle.tables.specs.declared.row.SignalKind.the-variants.{Sig, Nsig}
+use Rattle.tables.specs.declared.row.UnaryKind.{UnaryKind}
 use Rattle.tables.specs.declared.row.UnaryKind.the-variants.{Not, Next, Always, Ever}
+use Rattle.tables.specs.declared.row.BinaryKind.{BinaryKind}
 use Rattle.tables.specs.declared.row.BinaryKind.the-variants.{And, Or, Weak, Until, Release, Srelease}
 use Rattle.tables.specs.declared.row.Row.{Row}
 use Rattle.tables.specs.declared.row.Row.the-variants.{Constant, Signal, Unary, Binary}
 use Rattle.meaning.specs.Reading.{Reading}
 use Rattle.meaning.specs.Trace.{InfiniteTrace}
 use Rattle.meaning.specs.Satisfaction.{Table, RowTrue}
-use Rattle.meaning.specs.Strong.{StrongEver, StrongUntil, StrongSrelease, StrongMeans, RowStronglyTrue}
-use Rattle.meaning.specs.Informative.{Labels, Member, Condition, Labelling, Informative}
+use Rattle.meaning.specs.Strong.{StrongEver, StrongUntil, StrongSrelease, strongUnaryMeans, strongBinaryMeans, StrongMeans, RowStronglyTrue}
+use Rattle.meaning.specs.Informative.{Labels, Member, unaryCondition, binaryCondition, Condition, Labelling, Informative}
+use Rattle.meaning.specs.Rows.{Each, Ordered, Positive}
 use Rattle.meaning.proofs.Readings.{row-induction, during-cons, during-snoc, on-and-off, on-or-off, sum-map}
-use Rattle.meaning.proofs.Rows.{Each, each-map, each-signal, Ordered, Positive}
+use Rattle.meaning.proofs.Rows.{each-map, each-signal}
 use Rattle.meaning.proofs.Truth.{strongly-true-means}
 use Rattle.meaning.proofs.Evaluation.{bitsOf, bits-computed}
 use Rattle.meaning.proofs.StrongTruth.{Inside, cyclesBelow, strong-true}
@@ -79,24 +80,32 @@ module _ (n : ℕ) (w : InfiniteTrace) (L : Labels) (v : ℕ → ℕ → Type 0)
           sum-map (λ m. (p j (omega arith) m .1, s)) (λ m. (s, m)) (d .1)
 
   -- so is the row k, which is r, where its conditions are met
+  unary-means :
+      (a : ℕ) → Told a → (c : UnaryKind) → ((i : ℕ) → i < n → Member L i k → unaryCondition L c a k i)
+      → (i : ℕ) → i < n → Member L i k → strongUnaryMeans direct n c (v a) i
+  unary-means a p Not m i h x = m i h x
+  unary-means a p Next m i h x = p (suc i) h (m i h x)
+  unary-means a p Always m i h x =
+      met n (λ j. Member L j k) (λ j. Unit {0}) (λ j. ⊥) (λ j l y. inr (tt, m j l y .1)) end i h x .1 .2
+  unary-means a p Ever m i h x = ever-met a p m i h x
+
+  binary-means :
+      (a b : ℕ) → Told a → Told b → (c : BinaryKind) → ((i : ℕ) → i < n → Member L i k → binaryCondition L c a b k i)
+      → (i : ℕ) → i < n → Member L i k → strongBinaryMeans direct n c (v a) (v b) i
+  binary-means a b p q And m i h x = let y = m i h x in (p i (omega arith) (y .0) .1, q i (omega arith) (y .1) .1)
+  binary-means a b p q Or m i h x = sum-map (λ y. p i (omega arith) y .1) (λ y. q i (omega arith) y .1) (m i h x)
+  binary-means a b p q Weak m i h x = until-met a b p q m i h x
+  binary-means a b p q Until m i h x = until-met a b p q m i h x
+  binary-means a b p q Release m i h x = srelease-met a b p q m i h x
+  binary-means a b p q Srelease m i h x = srelease-met a b p q m i h x
+
   labels-mean :
       (r : Row) → Each Told r → ((i : ℕ) → i < n → Member L i k → Condition w L r k i)
       → (i : ℕ) → i < n → Member L i k → StrongMeans direct n w v r i
-  labels-mean (Constant True) e c i h x = tt
-  labels-mean (Constant False) e c i h x = c i h x
-  labels-mean (Signal Sig s) e c i h x = c i h x
-  labels-mean (Signal Nsig s) e c i h x = c i h x
-  labels-mean (Unary Not a) e c i h x = c i h x
-  labels-mean (Unary Next a) e c i h x = e (suc i) h (c i h x)
-  labels-mean (Unary Always a) e c i h x =
-      met n (λ j. Member L j k) (λ j. Unit {0}) (λ j. ⊥) (λ j l y. inr (tt, c j l y .1)) end i h x .1 .2
-  labels-mean (Unary Ever a) e c i h x = ever-met a e c i h x
-  labels-mean (Binary And a b) e c i h x = let y = c i h x in (e .0 i (omega arith) (y .0) .1, e .1 i (omega arith) (y .1) .1)
-  labels-mean (Binary Or a b) e c i h x = sum-map (λ m. e .0 i (omega arith) m .1) (λ m. e .1 i (omega arith) m .1) (c i h x)
-  labels-mean (Binary Weak a b) e c i h x = until-met a b (e .0) (e .1) c i h x
-  labels-mean (Binary Until a b) e c i h x = until-met a b (e .0) (e .1) c i h x
-  labels-mean (Binary Release a b) e c i h x = srelease-met a b (e .0) (e .1) c i h x
-  labels-mean (Binary Srelease a b) e c i h x = srelease-met a b (e .0) (e .1) c i h x
+  labels-mean (Constant c) e m i h x = m i h x
+  labels-mean (Signal c s) e m i h x = m i h x
+  labels-mean (Unary c a) e m i h x = unary-means a e c m i h x
+  labels-mean (Binary c a b) e m i h x = binary-means a b (e .0) (e .1) c m i h x
 
 -- ---- from strong truth to labels: what the strong operators say at cycle i, by cycle i and what they say at i + 1
 
@@ -144,23 +153,32 @@ module _ (n : ℕ) (w : InfiniteTrace) (L : Labels) (v : ℕ → ℕ → Type 0)
       (q i (h, y .0), sum-map (λ z. p i (h, z)) (c (suc i)) (y .1))
 
   -- the row k, which is r, meets its conditions where it is strongly true and L has it wherever it is
+  unary-conditions :
+      (a : ℕ) → Listed a → (c : UnaryKind) → ((i : ℕ) → Inside n (strongUnaryMeans direct n c (v a)) i → Member L i k)
+      → (i : ℕ) → i < n → strongUnaryMeans direct n c (v a) i → unaryCondition L c a k i
+  unary-conditions a p Not m i h x = x
+  unary-conditions a p Next m i h x = p (suc i) x
+  unary-conditions a p Always m i h x = absurd x
+  unary-conditions a p Ever m i h x = sum-map (λ y. p i (h, y)) (m (suc i)) (ever-step n (v a) i x)
+
+  binary-conditions :
+      (a b : ℕ) → Listed a → Listed b → (c : BinaryKind)
+      → ((i : ℕ) → Inside n (strongBinaryMeans direct n c (v a) (v b)) i → Member L i k)
+      → (i : ℕ) → i < n → strongBinaryMeans direct n c (v a) (v b) i → binaryCondition L c a b k i
+  binary-conditions a b p q And m i h x = (p i (h, x .0), q i (h, x .1))
+  binary-conditions a b p q Or m i h x = sum-map (λ y. p i (h, y)) (λ y. q i (h, y)) x
+  binary-conditions a b p q Weak m i h x = until-condition a b p q m i h x
+  binary-conditions a b p q Until m i h x = until-condition a b p q m i h x
+  binary-conditions a b p q Release m i h x = srelease-condition a b p q m i h x
+  binary-conditions a b p q Srelease m i h x = srelease-condition a b p q m i h x
+
   strong-conditions :
       (r : Row) → Each Listed r → ((i : ℕ) → Inside n (StrongMeans direct n w v r) i → Member L i k)
       → (i : ℕ) → i < n → StrongMeans direct n w v r i → Condition w L r k i
-  strong-conditions (Constant True) e c i h x = tt
-  strong-conditions (Constant False) e c i h x = x
-  strong-conditions (Signal Sig s) e c i h x = x
-  strong-conditions (Signal Nsig s) e c i h x = x
-  strong-conditions (Unary Not a) e c i h x = x
-  strong-conditions (Unary Next a) e c i h x = e (suc i) x
-  strong-conditions (Unary Always a) e c i h x = absurd x
-  strong-conditions (Unary Ever a) e c i h x = sum-map (λ y. e i (h, y)) (c (suc i)) (ever-step n (v a) i x)
-  strong-conditions (Binary And a b) e c i h x = (e .0 i (h, x .0), e .1 i (h, x .1))
-  strong-conditions (Binary Or a b) e c i h x = sum-map (λ y. e .0 i (h, y)) (λ y. e .1 i (h, y)) x
-  strong-conditions (Binary Weak a b) e c i h x = until-condition a b (e .0) (e .1) c i h x
-  strong-conditions (Binary Until a b) e c i h x = until-condition a b (e .0) (e .1) c i h x
-  strong-conditions (Binary Release a b) e c i h x = srelease-condition a b (e .0) (e .1) c i h x
-  strong-conditions (Binary Srelease a b) e c i h x = srelease-condition a b (e .0) (e .1) c i h x
+  strong-conditions (Constant c) e m i h x = x
+  strong-conditions (Signal c s) e m i h x = x
+  strong-conditions (Unary c a) e m i h x = unary-conditions a e c m i h x
+  strong-conditions (Binary c a b) e m i h x = binary-conditions a b (e .0) (e .1) c m i h x
 
 -- ---- the theorem
 

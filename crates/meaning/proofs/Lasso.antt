@@ -8,11 +8,13 @@ use native.Mathlib.Omega.{arith}
 use Rattle.meaning.specs.Reading.{Reading}
 use Rattle.meaning.specs.Trace.{InfiniteTrace, position}
 use Rattle.meaning.specs.Satisfaction.{Table, RowTrue}
+use Rattle.meaning.specs.Rows.{Ordered}
+use Rattle.meaning.specs.Approximant.{approximant}
 use Rattle.meaning.proofs.Readings.{row-induction, On, decided-by}
-use Rattle.meaning.proofs.Rows.{each-map, Ordered}
+use Rattle.meaning.proofs.Rows.{each-map}
 use Rattle.meaning.proofs.Truth.{everyCycle, truth-interprets}
 use Rattle.meaning.proofs.Periodic.{Periodic, position-below, position-periodic, at-position}
-use Rattle.meaning.proofs.Streams.{approximant, two-rounds}
+use Rattle.meaning.proofs.Streams.{two-rounds}
 use Rattle.meaning.proofs.PatternBits.{rowBit}
 use Rattle.meaning.proofs.Evaluation.{Computes, Evaluation, bitsOf, bits-computed, row-bit-local, evaluation-periodic, evaluation-is}
 

@@ -8,8 +8,9 @@ use Rattle.meaning.specs.Reading.{Reading}
 use Rattle.meaning.specs.Trace.{InfiniteTrace}
 use Rattle.meaning.specs.Satisfaction.{Table, Means, RowTrue}
 use Rattle.meaning.specs.Strong.{StrongMeans, RowStronglyTrue}
+use Rattle.meaning.specs.Rows.{Each, EachSignal, Ordered}
 use Rattle.meaning.proofs.Readings.{Into, into-itself, row-induction}
-use Rattle.meaning.proofs.Rows.{Each, each-map, EachSignal, each-signal, Ordered}
+use Rattle.meaning.proofs.Rows.{each-map, each-signal}
 use Rattle.meaning.proofs.Monotone.{means-iff, means-same, strong-means-iff, strong-means-same}
 use Rattle.meaning.proofs.Truth.{true-means, strongly-true-means}
 

@@ -1,24 +1,31 @@
 -- The one lemma between the meaning and the patterns (means-pattern); that patterns are monotone; and that all truths are stable: a
 -- reading of a truth is that truth (interprets-stable). Assumes nothing.
 use Prim.Native.Nat.{ℕ, suc, _≤_, _<_}
-use mathlib.Core.Path.{refl}
+use mathlib.Core.Path.{_≡_, refl}
 use mathlib.Core.Logic.{_↔_, _⊎_, inl, inr}
 use mathlib.Core.Bool.{Bool, true, false}
 use native.Mathlib.Omega.{arith}
+use Rattle.tables.specs.declared.row.ConstantKind.{ConstantKind}
 use Rattle.tables.specs.declared.row.ConstantKind.the-variants.{True, False}
+use Rattle.tables.specs.declared.row.SignalKind.{SignalKind}
 use Rattle.tables.specs.declared.row.SignalKind.the-variants.{Sig, Nsig}
+use Rattle.tables.specs.declared.row.UnaryKind.{UnaryKind}
 use Rattle.tables.specs.declared.row.UnaryKind.the-variants.{Not, Next, Always, Ever}
+use Rattle.tables.specs.declared.row.BinaryKind.{BinaryKind}
 use Rattle.tables.specs.declared.row.BinaryKind.the-variants.{And, Or, Weak, Until, Release, Srelease}
 use Rattle.tables.specs.declared.row.Row.{Row}
 use Rattle.tables.specs.declared.row.Row.the-variants.{Constant, Signal, Unary, Binary}
 use Rattle.meaning.specs.Reading.{Reading}
 use Rattle.meaning.specs.Operator as operator
 use Rattle.meaning.specs.Trace.{InfiniteTrace}
-use Rattle.meaning.specs.Satisfaction.{Table, Means, RowTrue}
+use Rattle.meaning.specs.Satisfaction.{Table, constantMeans, signalMeans, unaryMeans, binaryMeans, Means, RowTrue}
+use Rattle.meaning.specs.Rows.{Each, Ordered, positive}
+use Rattle.meaning.specs.Pattern.{Pattern, Pattern.now, Pattern.next, Pattern.connective, Pattern.temporal}
+use Rattle.meaning.specs.Pattern.{Operand.row, constantBit, signalSign, unaryLeft, unaryPattern, binaryPattern, left, right, patternOf}
 use Rattle.meaning.proofs.Readings.{map, some-map, either-map, into-itself, Stable, stable-on, stable-equal, stable-not, iff-refl, row-induction, On, on-and-off, during-snoc}
-use Rattle.meaning.proofs.Rows.{Each, each-map, Ordered}
+use Rattle.meaning.proofs.Rows.{each-map}
 use Rattle.meaning.proofs.Monotone.{until-map, weak-map}
-use Rattle.meaning.proofs.Pattern.{Pattern, Pattern.now, Pattern.next, Pattern.connective, Pattern.temporal, Keep, Goal, Holds, PatternMeans, OperandTrue, Operand.row, both-operands, left, right, patternOf}
+use Rattle.meaning.proofs.Pattern.{Keep, Goal, Holds, PatternMeans, Signed, OperandTrue, both-operands}
 use Rattle.meaning.proofs.Truth.{Interprets, everyCycle, truth-interprets}
 
 -- ---- the operators as until and weak until
@@ -46,22 +53,36 @@ module _ (R : Reading) (a : ℕ → Type 0) (i : ℕ) where
 
 -- ---- the tie
 
+constant-pattern : (c : ConstantKind) → constantMeans c ↔ On (constantBit c)
+constant-pattern True = (λ x. refl, λ x. tt)
+constant-pattern False = (λ x. absurd x, λ x. on-and-off x refl)
+
+signal-pattern : (on : Bool) (c : SignalKind) → signalMeans c on ↔ (on ≡ signalSign c)
+signal-pattern on Sig = iff-refl
+signal-pattern on Nsig = iff-refl
+
+module _ (R : Reading) (a : ℕ → Type 0) (stable : (j : ℕ) → Stable R (a j)) (i : ℕ) where
+  unary-pattern : (c : UnaryKind) → unaryMeans R c a i ↔ Holds R (λ j. On (unaryLeft c)) (λ j. Signed (positive c) (a j)) (unaryPattern c) i
+  unary-pattern Not = iff-refl
+  unary-pattern Next = iff-refl
+  unary-pattern Always = always-weak R a i stable
+  unary-pattern Ever = ever-until R a i
+
+module _ (R : Reading) (a b : ℕ → Type 0) (i : ℕ) where
+  binary-pattern : (c : BinaryKind) → binaryMeans R c a b i ↔ Holds R a b (binaryPattern c) i
+  binary-pattern And = iff-refl
+  binary-pattern Or = iff-refl
+  binary-pattern Weak = iff-refl
+  binary-pattern Until = iff-refl
+  binary-pattern Release = release-weak R a b i
+  binary-pattern Srelease = srelease-until R a b i
+
 module _ (R : Reading) (w : InfiniteTrace) (v : ℕ → ℕ → Type 0) (i : ℕ) where
   pub means-pattern : (r : Row) → Each (λ a. (j : ℕ) → Stable R (v a j)) r → Means R w v r i ↔ PatternMeans R w v r i
-  means-pattern (Constant True) e = (λ x. refl, λ x. tt)
-  means-pattern (Constant False) e = (λ x. absurd x, λ x. on-and-off x refl)
-  means-pattern (Signal Sig s) e = iff-refl
-  means-pattern (Signal Nsig s) e = iff-refl
-  means-pattern (Unary Not a) e = iff-refl
-  means-pattern (Unary Next a) e = iff-refl
-  means-pattern (Unary Always a) e = always-weak R (v a) i e
-  means-pattern (Unary Ever a) e = ever-until R (v a) i
-  means-pattern (Binary And a b) e = iff-refl
-  means-pattern (Binary Or a b) e = iff-refl
-  means-pattern (Binary Weak a b) e = iff-refl
-  means-pattern (Binary Until a b) e = iff-refl
-  means-pattern (Binary Release a b) e = release-weak R (v a) (v b) i
-  means-pattern (Binary Srelease a b) e = srelease-until R (v a) (v b) i
+  means-pattern (Constant c) e = constant-pattern c
+  means-pattern (Signal c s) e = signal-pattern (w i s) c
+  means-pattern (Unary c a) e = unary-pattern R (v a) e i c
+  means-pattern (Binary c a b) e = binary-pattern R (v a) (v b) i c
 
 -- ---- monotonicity
 

@@ -1,24 +1,32 @@
 -- Both meanings are monotone in the operands, `not` apart, and in the reading: where operands and signals agree, so do the
 -- meanings (means-iff, strong-means-iff, and means-same, strong-means-same on one trace). Assumes nothing.
 use Prim.Native.Nat.{ℕ, suc, _+_, _≤_, _<_}
-use mathlib.Core.Path.{_≡_, refl, sym, _∙_}
+use mathlib.Core.Path.{_≡_, refl, subst, sym}
 use mathlib.Core.Logic.{_↔_}
 use native.Mathlib.Omega.{arith}
-use Rattle.tables.specs.declared.row.ConstantKind.the-variants.{True, False}
-use Rattle.tables.specs.declared.row.SignalKind.the-variants.{Sig, Nsig}
+use Rattle.tables.specs.declared.row.UnaryKind.{UnaryKind}
 use Rattle.tables.specs.declared.row.UnaryKind.the-variants.{Not, Next, Always, Ever}
+use Rattle.tables.specs.declared.row.BinaryKind.{BinaryKind}
 use Rattle.tables.specs.declared.row.BinaryKind.the-variants.{And, Or, Weak, Until, Release, Srelease}
 use Rattle.tables.specs.declared.row.Row.{Row}
 use Rattle.tables.specs.declared.row.Row.the-variants.{Constant, Signal, Unary, Binary}
 use Rattle.meaning.specs.Reading.{Reading}
 use Rattle.meaning.specs.Operator as operator
 use Rattle.meaning.specs.Trace.{InfiniteTrace}
-use Rattle.meaning.specs.Satisfaction.{Means}
-use Rattle.meaning.specs.Strong.{StrongMeans, StrongUntil, StrongSrelease}
-use Rattle.meaning.proofs.Readings.{Into, into-itself, some-map, either-map, on-and-off}
-use Rattle.meaning.proofs.Rows.{Each, each-map, EachSignal, each-signal, each-signal-map, Positive}
+use Rattle.meaning.specs.Satisfaction.{signalMeans, unaryMeans, binaryMeans, Means}
+use Rattle.meaning.specs.Strong.{StrongUntil, StrongSrelease, strongUnaryMeans, strongBinaryMeans, StrongMeans}
+use Rattle.meaning.specs.Rows.{Each, EachSignal, positive, Positive}
+use Rattle.meaning.proofs.Readings.{Into, into-itself, some-map, either-map, On, on-and-off}
+use Rattle.meaning.proofs.Rows.{each-map, each-signal, each-signal-map}
 
--- ---- the operators, where the operands grow at the cycles from i on
+-- ---- each kind, where the operands grow at the cycles from i on
+
+module _ (R S : Reading) (into : Into R S) (i : ℕ) (a a′ : ℕ → Type 0) (p : (j : ℕ) → i ≤ j → a j → a′ j) where
+  unary-map : (c : UnaryKind) → On (positive c) → unaryMeans R c a i → unaryMeans S c a′ i
+  unary-map Not o = on-and-off o refl
+  unary-map Next o = p (suc i) (omega arith)
+  unary-map Always o = λ h j l. p j l (h j l)
+  unary-map Ever o = λ x. into _ (some-map R (λ j y. (y.0, p j y.0 y.1)) x)
 
 module _ (R S : Reading) (into : Into R S) (i : ℕ) (a b a′ b′ : ℕ → Type 0)
     (p : (j : ℕ) → i ≤ j → a j → a′ j) (q : (j : ℕ) → i ≤ j → b j → b′ j) where
@@ -34,24 +42,35 @@ module _ (R S : Reading) (into : Into R S) (i : ℕ) (a b a′ b′ : ℕ → Ty
   pub release-map : operator.Release R a b i → operator.Release S a′ b′ i
   release-map m = into _ (either-map R srelease-map (λ h j l. q j l (h j l)) m)
 
+  binary-map : (c : BinaryKind) → binaryMeans R c a b i → binaryMeans S c a′ b′ i
+  binary-map And = λ x. (p i (omega arith) x.0, q i (omega arith) x.1)
+  binary-map Or = λ x. into _ (either-map R (p i (omega arith)) (q i (omega arith)) x)
+  binary-map Weak = weak-map
+  binary-map Until = until-map
+  binary-map Release = release-map
+  binary-map Srelease = srelease-map
+
+-- where they agree, `not` included
+module _ (R S : Reading) (into : Into R S) (back : Into S R) (i : ℕ) (a a′ : ℕ → Type 0) (e : (j : ℕ) → i ≤ j → a j ↔ a′ j) where
+  unary-both : (c : UnaryKind) → On (positive c) → unaryMeans R c a i ↔ unaryMeans S c a′ i
+  unary-both c o = (unary-map R S into i a a′ (λ j l. e j l .0) c o, unary-map S R back i a′ a (λ j l. e j l .1) c o)
+
+  unary-iff : (c : UnaryKind) → unaryMeans R c a i ↔ unaryMeans S c a′ i
+  unary-iff Not = (λ n x. n (e i (omega arith) .1 x), λ n x. n (e i (omega arith) .0 x))
+  unary-iff Next = unary-both Next refl
+  unary-iff Always = unary-both Always refl
+  unary-iff Ever = unary-both Ever refl
+
+-- ---- rows
+
 module _ (R S : Reading) (into : Into R S) (w w′ : InfiniteTrace) (u v : ℕ → ℕ → Type 0) (i : ℕ) where
   pub means-map :
       (r : Row) → Positive r → EachSignal (λ s. w i s ≡ w′ i s) r → Each (λ a. (j : ℕ) → i ≤ j → u a j → v a j) r → Means R w u r i
       → Means S w′ v r i
-  means-map (Constant True) p e m = λ x. x
-  means-map (Constant False) p e m = λ x. x
-  means-map (Signal Sig s) p e m = λ x. sym e ∙ x
-  means-map (Signal Nsig s) p e m = λ x. sym e ∙ x
-  means-map (Unary Not a) p e m = on-and-off p refl
-  means-map (Unary Next a) p e m = m (suc i) (omega arith)
-  means-map (Unary Always a) p e m = λ h j l. m j l (h j l)
-  means-map (Unary Ever a) p e m = λ x. into _ (some-map R (λ j y. (y.0, m j y.0 y.1)) x)
-  means-map (Binary And a b) p e m = λ x. (m .0 i (omega arith) x.0, m .1 i (omega arith) x.1)
-  means-map (Binary Or a b) p e m = λ x. into _ (either-map R (m .0 i (omega arith)) (m .1 i (omega arith)) x)
-  means-map (Binary Weak a b) p e m = weak-map R S into i _ _ _ _ (m .0) (m .1)
-  means-map (Binary Until a b) p e m = until-map R S into i _ _ _ _ (m .0) (m .1)
-  means-map (Binary Release a b) p e m = release-map R S into i _ _ _ _ (m .0) (m .1)
-  means-map (Binary Srelease a b) p e m = srelease-map R S into i _ _ _ _ (m .0) (m .1)
+  means-map (Constant c) o e m = λ x. x
+  means-map (Signal c s) o e m = subst (signalMeans c) e
+  means-map (Unary c a) o e m = unary-map R S into i (u a) (v a) m c o
+  means-map (Binary c a b) o e m = binary-map R S into i (u a) (u b) (v a) (v b) (m .0) (m .1) c
 
 -- at cycle i a row depends on its operands from i on, on its signal at i, and on what the reading reads
 module _ (R S : Reading) (into : Into R S) (back : Into S R) (w w′ : InfiniteTrace) (u v : ℕ → ℕ → Type 0) (i : ℕ) where
@@ -59,18 +78,15 @@ module _ (R S : Reading) (into : Into R S) (back : Into S R) (w w′ : InfiniteT
   Agree a = (j : ℕ) → i ≤ j → u a j ↔ v a j
 
   both : (r : Row) → Positive r → EachSignal (λ s. w i s ≡ w′ i s) r → Each Agree r → Means R w u r i ↔ Means S w′ v r i
-  both r p e m = (
-    means-map R S into w w′ u v i r p e (each-map _ _ (λ a f j l. f j l .0) r m),
-    means-map S R back w′ w v u i r p (each-signal-map _ _ r (λ s. sym) e) (each-map _ _ (λ a f j l. f j l .1) r m),
+  both r o e m = (
+    means-map R S into w w′ u v i r o e (each-map _ _ (λ a f j l. f j l .0) r m),
+    means-map S R back w′ w v u i r o (each-signal-map _ _ r (λ s. sym) e) (each-map _ _ (λ a f j l. f j l .1) r m),
   )
 
   pub means-iff : (r : Row) → EachSignal (λ s. w i s ≡ w′ i s) r → Each Agree r → Means R w u r i ↔ Means S w′ v r i
   means-iff (Constant c) = both (Constant c) tt
   means-iff (Signal c s) = both (Signal c s) tt
-  means-iff (Unary Not a) = λ e m. (λ n x. n (m i (omega arith) .1 x), λ n x. n (m i (omega arith) .0 x))
-  means-iff (Unary Next a) = both (Unary Next a) refl
-  means-iff (Unary Always a) = both (Unary Always a) refl
-  means-iff (Unary Ever a) = both (Unary Ever a) refl
+  means-iff (Unary c a) = λ e m. unary-iff R S into back i (u a) (v a) m c
   means-iff (Binary c a b) = both (Binary c a b) tt
 
 -- on one trace, in one reading
@@ -81,31 +97,39 @@ means-same R w u v r e i = means-iff R R (into-itself R) (into-itself R) w w u v
 
 -- ---- the strong meaning on n cycles, where the operands grow at the cycles below d
 
+module _ (R : Reading) (n d : ℕ) (n≤d : n ≤ d) (i : ℕ) (i<d : i < d) where
+  abbrev Grows : (ℕ → Type 0) → (ℕ → Type 0) → Type 0
+  Grows a a′ = (j : ℕ) → j < d → a j → a′ j
+
+  strong-unary-map : (a a′ : ℕ → Type 0) → Grows a a′ → (c : UnaryKind) → strongUnaryMeans R n c a i → strongUnaryMeans R n c a′ i
+  strong-unary-map a a′ p Not = λ x. x
+  strong-unary-map a a′ p Next = λ x. (x.0, p (suc i) (omega arith) x.1)
+  strong-unary-map a a′ p Always = λ x. x
+  strong-unary-map a a′ p Ever = some-map R (λ j x. (x.0, x.1, p j (omega arith) x.2))
+
+  module _ (a b a′ b′ : ℕ → Type 0) (p : Grows a a′) (q : Grows b b′) where
+    strong-until : StrongUntil R n a b i → StrongUntil R n a′ b′ i
+    strong-until = some-map R (λ j x. (x.0, x.1, q j (omega arith) x.2, λ k l h. p k (omega arith) (x.3 k l h)))
+
+    strong-srelease : StrongSrelease R n a b i → StrongSrelease R n a′ b′ i
+    strong-srelease = some-map R (λ j x. (x.0, x.1, p j (omega arith) x.2, λ k l h. q k (omega arith) (x.3 k l h)))
+
+    strong-binary-map : (c : BinaryKind) → strongBinaryMeans R n c a b i → strongBinaryMeans R n c a′ b′ i
+    strong-binary-map And = λ x. (p i i<d x.0, q i i<d x.1)
+    strong-binary-map Or = either-map R (p i i<d) (q i i<d)
+    strong-binary-map Weak = strong-until
+    strong-binary-map Until = strong-until
+    strong-binary-map Release = strong-srelease
+    strong-binary-map Srelease = strong-srelease
+
 module _ (R : Reading) (n d : ℕ) (n≤d : n ≤ d) (w w′ : InfiniteTrace) (u v : ℕ → ℕ → Type 0) (i : ℕ) (i<d : i < d) where
-  abbrev Grows : ℕ → Type 0
-  Grows a = (j : ℕ) → j < d → u a j → v a j
-
-  strong-until : (a b : ℕ) → Grows a → Grows b → StrongUntil R n (u a) (u b) i → StrongUntil R n (v a) (v b) i
-  strong-until a b p q = some-map R (λ j x. (x.0, x.1, q j (omega arith) x.2, λ k l h. p k (omega arith) (x.3 k l h)))
-
-  strong-srelease : (a b : ℕ) → Grows a → Grows b → StrongSrelease R n (u a) (u b) i → StrongSrelease R n (v a) (v b) i
-  strong-srelease a b p q = some-map R (λ j x. (x.0, x.1, p j (omega arith) x.2, λ k l h. q k (omega arith) (x.3 k l h)))
-
-  pub strong-means-map : (r : Row) → EachSignal (λ s. w i s ≡ w′ i s) r → Each Grows r → StrongMeans R n w u r i → StrongMeans R n w′ v r i
-  strong-means-map (Constant True) e m = λ x. x
-  strong-means-map (Constant False) e m = λ x. x
-  strong-means-map (Signal Sig s) e m = λ x. sym e ∙ x
-  strong-means-map (Signal Nsig s) e m = λ x. sym e ∙ x
-  strong-means-map (Unary Not a) e m = λ x. x
-  strong-means-map (Unary Next a) e m = λ x. (x.0, m (suc i) (omega arith) x.1)
-  strong-means-map (Unary Always a) e m = λ x. x
-  strong-means-map (Unary Ever a) e m = some-map R (λ j x. (x.0, x.1, m j (omega arith) x.2))
-  strong-means-map (Binary And a b) e m = λ x. (m .0 i i<d x.0, m .1 i i<d x.1)
-  strong-means-map (Binary Or a b) e m = either-map R (m .0 i i<d) (m .1 i i<d)
-  strong-means-map (Binary Weak a b) e m = strong-until a b (m .0) (m .1)
-  strong-means-map (Binary Until a b) e m = strong-until a b (m .0) (m .1)
-  strong-means-map (Binary Release a b) e m = strong-srelease a b (m .0) (m .1)
-  strong-means-map (Binary Srelease a b) e m = strong-srelease a b (m .0) (m .1)
+  pub strong-means-map :
+      (r : Row) → EachSignal (λ s. w i s ≡ w′ i s) r → Each (λ a. (j : ℕ) → j < d → u a j → v a j) r → StrongMeans R n w u r i
+      → StrongMeans R n w′ v r i
+  strong-means-map (Constant c) e m = λ x. x
+  strong-means-map (Signal c s) e m = subst (signalMeans c) e
+  strong-means-map (Unary c a) e m = strong-unary-map R n d n≤d i i<d (u a) (v a) m c
+  strong-means-map (Binary c a b) e m = strong-binary-map R n d n≤d i i<d (u a) (u b) (v a) (v b) (m .0) (m .1) c
 
 module _ (R : Reading) (n d : ℕ) (n≤d : n ≤ d) (w w′ : InfiniteTrace) (u v : ℕ → ℕ → Type 0) (i : ℕ) (i<d : i < d) where
   pub strong-means-iff :

@@ -1,38 +1,23 @@
--- The patterns over bits: what is computed for a row from the bits of its operands, and that it is what the pattern says where the
--- operands' bits are their truth, in any reading. Until and weak until are computed to a depth (Streams). Assumes nothing.
+-- What is computed for a row from the bits of its operands (rowBit), and that it is what the pattern says where the operands' bits are
+-- their truth, in any reading. Until and weak until are computed to a depth (Streams). Assumes nothing.
 use Prim.Native.Nat.{ℕ, suc, _+_, _-_, _≤_, _<_}
 use mathlib.Core.Path.{_≡_, refl, sym, ap, ap₂, _∙_}
 use mathlib.Core.Logic.{_↔_, _⊎_, inl, inr}
-use mathlib.Core.Bool.{Bool, true, false, not, _&&_, _||_, true≢false}
+use mathlib.Core.Bool.{Bool, true, false, _&&_, _||_, true≢false}
 use native.Mathlib.Omega.{arith}
 use Rattle.tables.specs.declared.row.Row.{Row}
 use Rattle.meaning.specs.Reading.{Reading, Either}
 use Rattle.meaning.specs.Operator.{Until, Always}
 use Rattle.meaning.specs.Trace.{InfiniteTrace}
+use Rattle.meaning.specs.Pattern.{Pattern, Pattern.now, Pattern.next, Pattern.connective, Pattern.temporal, left, right, patternOf}
+use Rattle.meaning.specs.Pattern.{keepBit, goalBit, connectiveBit, keepBits, goalBits, signedBit, operandBits}
+use Rattle.meaning.specs.Approximant.{approximant}
 use Rattle.meaning.proofs.Readings.{On, on-and-off, on-from}
 use Rattle.meaning.proofs.Periodic.{Periodic}
-use Rattle.meaning.proofs.Streams.{approximant, approximant-is, approximant-periodic, Reached, KeptForever}
-use Rattle.meaning.proofs.Pattern.{Pattern, Pattern.now, Pattern.next, Pattern.connective, Pattern.temporal, Keep, Goal, Keeps, Goals, Connective, Temporal, Holds, Operand, Operand.constant, Operand.signal, Operand.row, left, right, patternOf, Signed}
+use Rattle.meaning.proofs.Streams.{approximant-is, approximant-periodic, Reached, KeptForever}
+use Rattle.meaning.proofs.Pattern.{Keep, Goal, Keeps, Goals, Connective, Temporal, Holds, Signed}
 
 -- ---- the bits
-
-abbrev pub keepBit : Bool → Bool → Bool → Bool
-keepBit true a b = a
-keepBit false a b = b
-
-abbrev pub goalBit : Bool → Bool → Bool → Bool
-goalBit true a b = b
-goalBit false a b = a && b
-
-abbrev pub connectiveBit : Bool → Bool → Bool → Bool
-connectiveBit true a b = a || b
-connectiveBit false a b = a && b
-
-abbrev pub keepBits : Bool → (ℕ → Bool) → (ℕ → Bool) → ℕ → Bool
-keepBits f p q = λ j. keepBit f (p j) (q j)
-
-abbrev pub goalBits : Bool → (ℕ → Bool) → (ℕ → Bool) → ℕ → Bool
-goalBits f p q = λ j. goalBit f (p j) (q j)
 
 -- depth: how many cycles to look ahead from each cycle
 module _ (depth : ℕ → ℕ) (p q : ℕ → Bool) where
@@ -41,19 +26,6 @@ module _ (depth : ℕ → ℕ) (p q : ℕ → Bool) where
   patternBit next i = q (suc i)
   patternBit (connective f) i = connectiveBit f (p i) (q i)
   patternBit (temporal f w) i = approximant (keepBits f p q) (goalBits f p q) w (depth i) i
-
-abbrev pub signedBit : Bool → Bool → Bool
-signedBit true x = x
-signedBit false x = not x
-
--- over the signals and the rows' bits of one cycle
-abbrev pub operandBit : (ℕ → Bool) → (ℕ → Bool) → Operand → Bool
-operandBit signals rows (constant b) = b
-operandBit signals rows (signal b s) = signedBit b (signals s)
-operandBit signals rows (row b a) = signedBit b (rows a)
-
-abbrev pub operandBits : InfiniteTrace → (ℕ → ℕ → Bool) → Operand → ℕ → Bool
-operandBits w bits x i = operandBit (w i) (λ a. bits a i) x
 
 abbrev pub rowBit : InfiniteTrace → (ℕ → ℕ) → (ℕ → ℕ → Bool) → Row → ℕ → Bool
 rowBit w depth bits r i = patternBit depth (operandBits w bits (left r)) (operandBits w bits (right r)) (patternOf r) i

@@ -11,8 +11,9 @@ use Rattle.meaning.specs.Reading.{Reading}
 use Rattle.meaning.specs.Trace.{InfiniteTrace}
 use Rattle.meaning.specs.Satisfaction.{Table}
 use Rattle.meaning.specs.Strong.{RowStronglyTrue}
+use Rattle.meaning.specs.Rows.{Ordered, Positive}
 use Rattle.meaning.proofs.Readings.{On, decided-by}
-use Rattle.meaning.proofs.Rows.{each-signal, Ordered, Positive}
+use Rattle.meaning.proofs.Rows.{each-signal}
 use Rattle.meaning.proofs.Evaluation.{Computes, Evaluation, bitsOf, bits-computed, evaluation-is}
 use Rattle.meaning.proofs.StrongTruth.{cyclesBelow, Inside, strong-interprets}
 

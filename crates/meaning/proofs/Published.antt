@@ -5,26 +5,30 @@
 use Prim.Native.Nat.{ℕ, zero, suc, _≤_, _<_}
 use Prim.Axiom.{LEM}
 use mathlib.Core.Path.{_≡_, subst⁻¹}
+use mathlib.Core.Bool.{Bool}
 use mathlib.Core.Logic.{_↔_, _⊎_, inl, inr, ⊎-elim, Iff·trans, Iff·symm}
 use native.Mathlib.Nat.{eq-or-lt-of-le}
 use native.Mathlib.Omega.{arith}
-use Rattle.tables.specs.declared.row.ConstantKind.the-variants.{True, False}
+use Rattle.tables.specs.declared.row.SignalKind.{SignalKind}
 use Rattle.tables.specs.declared.row.SignalKind.the-variants.{Sig, Nsig}
+use Rattle.tables.specs.declared.row.UnaryKind.{UnaryKind}
 use Rattle.tables.specs.declared.row.UnaryKind.the-variants.{Not, Next, Always, Ever}
+use Rattle.tables.specs.declared.row.BinaryKind.{BinaryKind}
 use Rattle.tables.specs.declared.row.BinaryKind.the-variants.{And, Or, Weak, Until, Release, Srelease}
 use Rattle.tables.specs.declared.row.Row.{Row}
 use Rattle.tables.specs.declared.row.Row.the-variants.{Constant, Signal, Unary, Binary}
 use Rattle.tables.specs.declared.row.Formula.{Formula}
 use Rattle.tables.specs.declared.row.NormalForm.{NormalForm}
 use Rattle.tables.specs.declared.trace.Trace.{Trace}
-use Rattle.meaning.specs.Reading.{Reading, classical, literal, Either, Some}
+use Rattle.meaning.specs.Reading.{Reading, classical, literal, Either}
 use Rattle.meaning.specs.Operator as operator
 use Rattle.meaning.specs.Trace.{InfiniteTrace, signalAt, unrolled}
-use Rattle.meaning.specs.Satisfaction.{Table, tableOf, Means, RowTrue, Satisfies, SatisfiesNormal}
+use Rattle.meaning.specs.Satisfaction.{Table, tableOf, signalMeans, unaryMeans, binaryMeans, Means, RowTrue, Satisfies, SatisfiesNormal}
 use Rattle.meaning.specs.Published as published
 use Rattle.meaning.specs.Published.{PublishedMeans, publishedWithin, PublishedTrue, PublishedSatisfies, PublishedSatisfiesNormal}
+use Rattle.meaning.specs.Rows.{Each, Ordered}
 use Rattle.meaning.proofs.Readings.{Full, classical-full, literal-full, Stable, not-not-stable, map, either-map, some-map, iff-refl, lt-or-le, induction-from, row-induction, on-and-off, not-true}
-use Rattle.meaning.proofs.Rows.{Each, each-map, Ordered}
+use Rattle.meaning.proofs.Rows.{each-map}
 use Rattle.meaning.proofs.Monotone.{means-same}
 use Rattle.meaning.proofs.Truth.{true-means}
 use Rattle.meaning.proofs.MeaningByPattern.{srelease-until, release-weak, truth-stable}
@@ -122,23 +126,33 @@ module _ (R : Reading) (a b : ℕ → Type 0) (i : ℕ) where
 
 -- ---- every kind of row
 
+signal-published : (on : Bool) (c : SignalKind) → signalMeans c on ↔ published.publishedSignal c on
+signal-published on Sig = iff-refl
+signal-published on Nsig = (λ x y. on-and-off y x, not-true on)
+
+module _ (R : Reading) (a : ℕ → Type 0) (i : ℕ) where
+  unary-published : (c : UnaryKind) → unaryMeans R c a i ↔ published.publishedUnary R c a i
+  unary-published Not = iff-refl
+  unary-published Next = next-published a i
+  unary-published Always = always-published a i
+  unary-published Ever = ever-published R a i
+
+module _ (R : Reading) (a b : ℕ → Type 0) (i : ℕ) (stable : (j : ℕ) → Stable R (b j)) where
+  binary-published : (c : BinaryKind) → Settled (binaryMeans R c a b i) → binaryMeans R c a b i ↔ published.publishedBinary R c a b i
+  binary-published And s = iff-refl
+  binary-published Or s = iff-refl
+  binary-published Weak s = weak-published R a b i
+  binary-published Until s = until-published R a b i
+  binary-published Release s = (release-implies R a b i, λ p. s (release-implied R a b i stable p))
+  binary-published Srelease s = srelease-published R a b i
+
 module _ (R : Reading) (w : InfiniteTrace) (v : ℕ → ℕ → Type 0) (i : ℕ) where
   pub kind-published :
       (r : Row) → Each (λ a. (j : ℕ) → Stable R (v a j)) r → Settled (Means R w v r i) → Means R w v r i ↔ PublishedMeans R w v r i
-  kind-published (Constant True) e s = iff-refl
-  kind-published (Constant False) e s = iff-refl
-  kind-published (Signal Sig p) e s = iff-refl
-  kind-published (Signal Nsig p) e s = (λ x y. on-and-off y x, not-true (w i p))
-  kind-published (Unary Not a) e s = iff-refl
-  kind-published (Unary Next a) e s = next-published (v a) i
-  kind-published (Unary Always a) e s = always-published (v a) i
-  kind-published (Unary Ever a) e s = ever-published R (v a) i
-  kind-published (Binary And a b) e s = iff-refl
-  kind-published (Binary Or a b) e s = iff-refl
-  kind-published (Binary Weak a b) e s = weak-published R (v a) (v b) i
-  kind-published (Binary Until a b) e s = until-published R (v a) (v b) i
-  kind-published (Binary Release a b) e s = (release-implies R (v a) (v b) i, λ p. s (release-implied R (v a) (v b) i (e .1) p))
-  kind-published (Binary Srelease a b) e s = srelease-published R (v a) (v b) i
+  kind-published (Constant c) e s = iff-refl
+  kind-published (Signal c p) e s = signal-published (w i p) c
+  kind-published (Unary c a) e s = unary-published R (v a) i c
+  kind-published (Binary c a b) e s = binary-published R (v a) (v b) i (e .1) c s
 
 -- ---- the rows of a table, where their truth is settled
 

@@ -1,71 +1,98 @@
 -- The dual of a positive row, where its operands are the negations, is the row's negation: it excludes the row in any reading
 -- (dual-excludes), and in a full one holds where the row does not (dual-else). Assumes nothing.
 use Prim.Native.Nat.{ℕ, suc}
-use mathlib.Core.Path.{refl}
-use Rattle.tables.specs.Kind.{dualOf, kindAt, kinds}
+use mathlib.Core.Path.{_≡_, refl, _∙_}
+use mathlib.Core.Bool.{Bool}
+use Rattle.tables.specs.Kind.{dualOf}
+use Rattle.tables.specs.declared.row.ConstantKind.{ConstantKind}
 use Rattle.tables.specs.declared.row.ConstantKind.the-variants.{True, False}
+use Rattle.tables.specs.declared.row.SignalKind.{SignalKind}
 use Rattle.tables.specs.declared.row.SignalKind.the-variants.{Sig, Nsig}
+use Rattle.tables.specs.declared.row.UnaryKind.{UnaryKind}
 use Rattle.tables.specs.declared.row.UnaryKind.the-variants.{Not, Next, Always, Ever}
+use Rattle.tables.specs.declared.row.BinaryKind.{BinaryKind}
 use Rattle.tables.specs.declared.row.BinaryKind.the-variants.{And, Or, Weak, Until, Release, Srelease}
 use Rattle.tables.specs.declared.row.Row.{Row}
 use Rattle.tables.specs.declared.row.Row.the-variants.{Constant, Signal, Unary, Binary}
+use Rattle.tables.proofs.Duals.{constantDual, signalDual, unaryDual, binaryDual, dual-constant, dual-signal, dual-unary, dual-binary}
 use Rattle.meaning.specs.Reading.{Reading}
 use Rattle.meaning.specs.Trace.{InfiniteTrace}
-use Rattle.meaning.specs.Satisfaction.{Means}
-use Rattle.meaning.proofs.Readings.{Full, on-and-off, not-true, not-false}
-use Rattle.meaning.proofs.Rows.{Each, Positive}
+use Rattle.meaning.specs.Satisfaction.{constantMeans, signalMeans, unaryMeans, binaryMeans, Means}
+use Rattle.meaning.specs.Rows.{Each, positive, Positive}
+use Rattle.meaning.proofs.Readings.{Full, On, on-and-off, not-true, not-false}
 use Rattle.meaning.proofs.Duality as duality
 
-pub dual-positive : (r : Row) → Positive r → Positive (dualOf r)
-unfolding dualOf kindAt kinds
-dual-positive (Constant True) p = tt
-dual-positive (Constant False) p = tt
-dual-positive (Signal Sig s) p = tt
-dual-positive (Signal Nsig s) p = tt
-dual-positive (Unary Not a) p = on-and-off p refl
-dual-positive (Unary Next a) p = refl
-dual-positive (Unary Always a) p = refl
-dual-positive (Unary Ever a) p = refl
-dual-positive (Binary And a b) p = tt
-dual-positive (Binary Or a b) p = tt
-dual-positive (Binary Weak a b) p = tt
-dual-positive (Binary Until a b) p = tt
-dual-positive (Binary Release a b) p = tt
-dual-positive (Binary Srelease a b) p = tt
+pub positive-dual : (c : UnaryKind) → positive (unaryDual c) ≡ positive c
+positive-dual Not = refl
+positive-dual Next = refl
+positive-dual Always = refl
+positive-dual Ever = refl
 
--- u at the dual's operands, v at the row's
+pub dual-positive : (r : Row) → Positive r → Positive (dualOf r)
+dual-positive (Constant c) p = rw (dual-constant c) tt
+dual-positive (Signal c s) p = rw (dual-signal c s) tt
+dual-positive (Unary c a) p = rw (dual-unary c a) (positive-dual c ∙ p)
+dual-positive (Binary c a b) p = rw (dual-binary c a b) tt
+
+-- ---- each kind
+
+constant-excludes : (c : ConstantKind) → constantMeans (constantDual c) → ¬ constantMeans c
+constant-excludes True x y = x
+constant-excludes False x y = y
+
+constant-else : (c : ConstantKind) → ¬ constantMeans c → constantMeans (constantDual c)
+constant-else True n = n tt
+constant-else False n = tt
+
+signal-excludes : (on : Bool) (c : SignalKind) → signalMeans (signalDual c) on → ¬ signalMeans c on
+signal-excludes on Sig x y = on-and-off y x
+signal-excludes on Nsig x y = on-and-off x y
+
+signal-else : (on : Bool) (c : SignalKind) → ¬ signalMeans c on → signalMeans (signalDual c) on
+signal-else on Sig = not-true on
+signal-else on Nsig = not-false on
+
+module _ (R : Reading) (a a′ : ℕ → Type 0) (i : ℕ) where
+  unary-excludes : (c : UnaryKind) → On (positive c) → duality.Exclude a a′ → unaryMeans R (unaryDual c) a′ i → ¬ unaryMeans R c a i
+  unary-excludes Not o e = on-and-off o refl
+  unary-excludes Next o e = e (suc i)
+  unary-excludes Always o e = duality.always-excludes R a a′ e i
+  unary-excludes Ever o e = duality.ever-excludes R a a′ e i
+
+  unary-else : Full R → (c : UnaryKind) → On (positive c) → duality.Cover a a′ → ¬ unaryMeans R c a i → unaryMeans R (unaryDual c) a′ i
+  unary-else full Not o e = on-and-off o refl
+  unary-else full Next o e = e (suc i) .0
+  unary-else full Always o e = duality.always-else R full a a′ e i
+  unary-else full Ever o e = duality.ever-else R full a a′ e i
+
+module _ (R : Reading) (a b a′ b′ : ℕ → Type 0) (i : ℕ) where
+  binary-excludes : (c : BinaryKind) → duality.Exclude a a′ → duality.Exclude b b′ → binaryMeans R (binaryDual c) a′ b′ i → ¬ binaryMeans R c a b i
+  binary-excludes And p q = duality.and-excludes R a b a′ b′ p q i
+  binary-excludes Or p q = duality.or-excludes R a b a′ b′ p q i
+  binary-excludes Weak p q = duality.weak-excludes R a b a′ b′ p q i
+  binary-excludes Until p q = duality.until-excludes R a b a′ b′ p q i
+  binary-excludes Release p q = duality.release-excludes R a b a′ b′ p q i
+  binary-excludes Srelease p q = duality.srelease-excludes R a b a′ b′ p q i
+
+  binary-else : Full R → (c : BinaryKind) → duality.Cover a a′ → duality.Cover b b′ → ¬ binaryMeans R c a b i → binaryMeans R (binaryDual c) a′ b′ i
+  binary-else full And p q = duality.and-else R full a b a′ b′ p q i
+  binary-else full Or p q = duality.or-else R full a b a′ b′ p q i
+  binary-else full Weak p q = duality.weak-else R full a b a′ b′ p q i
+  binary-else full Until p q = duality.until-else R full a b a′ b′ p q i
+  binary-else full Release p q = duality.release-else R full a b a′ b′ p q i
+  binary-else full Srelease p q = duality.srelease-else R full a b a′ b′ p q i
+
+-- ---- rows: u at the dual's operands, v at the row's
+
 module _ (R : Reading) (w : InfiniteTrace) (u v : ℕ → ℕ → Type 0) (i : ℕ) where
   pub dual-excludes : (r : Row) → Positive r → Each (λ a. duality.Exclude (v a) (u a)) r → Means R w u (dualOf r) i → ¬ Means R w v r i
-  unfolding dualOf kindAt kinds
-  dual-excludes (Constant True) p e = λ x y. x
-  dual-excludes (Constant False) p e = λ x y. y
-  dual-excludes (Signal Sig s) p e = λ x y. on-and-off y x
-  dual-excludes (Signal Nsig s) p e = λ x y. on-and-off x y
-  dual-excludes (Unary Not a) p e = on-and-off p refl
-  dual-excludes (Unary Next a) p e = e (suc i)
-  dual-excludes (Unary Always a) p e = duality.always-excludes R (v a) (u a) e i
-  dual-excludes (Unary Ever a) p e = duality.ever-excludes R (v a) (u a) e i
-  dual-excludes (Binary And a b) p e = duality.and-excludes R (v a) (v b) (u a) (u b) (e .0) (e .1) i
-  dual-excludes (Binary Or a b) p e = duality.or-excludes R (v a) (v b) (u a) (u b) (e .0) (e .1) i
-  dual-excludes (Binary Weak a b) p e = duality.weak-excludes R (v a) (v b) (u a) (u b) (e .0) (e .1) i
-  dual-excludes (Binary Until a b) p e = duality.until-excludes R (v a) (v b) (u a) (u b) (e .0) (e .1) i
-  dual-excludes (Binary Release a b) p e = duality.release-excludes R (v a) (v b) (u a) (u b) (e .0) (e .1) i
-  dual-excludes (Binary Srelease a b) p e = duality.srelease-excludes R (v a) (v b) (u a) (u b) (e .0) (e .1) i
+  dual-excludes (Constant c) p e = rw (dual-constant c) (constant-excludes c)
+  dual-excludes (Signal c s) p e = rw (dual-signal c s) (signal-excludes (w i s) c)
+  dual-excludes (Unary c a) p e = rw (dual-unary c a) (unary-excludes R (v a) (u a) i c p e)
+  dual-excludes (Binary c a b) p e = rw (dual-binary c a b) (binary-excludes R (v a) (v b) (u a) (u b) i c (e .0) (e .1))
 
-  module _ (full : Full R) where
-    pub dual-else : (r : Row) → Positive r → Each (λ a. duality.Cover (v a) (u a)) r → ¬ Means R w v r i → Means R w u (dualOf r) i
-    unfolding dualOf kindAt kinds
-    dual-else (Constant True) p e = λ n. n tt
-    dual-else (Constant False) p e = λ n. tt
-    dual-else (Signal Sig s) p e = not-true (w i s)
-    dual-else (Signal Nsig s) p e = not-false (w i s)
-    dual-else (Unary Not a) p e = on-and-off p refl
-    dual-else (Unary Next a) p e = e (suc i) .0
-    dual-else (Unary Always a) p e = duality.always-else R full (v a) (u a) e i
-    dual-else (Unary Ever a) p e = duality.ever-else R full (v a) (u a) e i
-    dual-else (Binary And a b) p e = duality.and-else R full (v a) (v b) (u a) (u b) (e .0) (e .1) i
-    dual-else (Binary Or a b) p e = duality.or-else R full (v a) (v b) (u a) (u b) (e .0) (e .1) i
-    dual-else (Binary Weak a b) p e = duality.weak-else R full (v a) (v b) (u a) (u b) (e .0) (e .1) i
-    dual-else (Binary Until a b) p e = duality.until-else R full (v a) (v b) (u a) (u b) (e .0) (e .1) i
-    dual-else (Binary Release a b) p e = duality.release-else R full (v a) (v b) (u a) (u b) (e .0) (e .1) i
-    dual-else (Binary Srelease a b) p e = duality.srelease-else R full (v a) (v b) (u a) (u b) (e .0) (e .1) i
+  pub dual-else : Full R → (r : Row) → Positive r → Each (λ a. duality.Cover (v a) (u a)) r → ¬ Means R w v r i → Means R w u (dualOf r) i
+  dual-else full (Constant c) p e = rw (dual-constant c) (constant-else c)
+  dual-else full (Signal c s) p e = rw (dual-signal c s) (signal-else (w i s) c)
+  dual-else full (Unary c a) p e = rw (dual-unary c a) (unary-else R (v a) (u a) i full c p e)
+  dual-else full (Binary c a b) p e = rw (dual-binary c a b) (binary-else R (v a) (v b) (u a) (u b) i full c (e .0) (e .1))

@@ -2,15 +2,15 @@
 -- prefix is truth on every infinite trace that begins with it (strong-true), and strong truth on every longer prefix
 -- (strong-longer). Normal forms only: no row is a `not`. Assumes nothing.
 use Prim.Native.Nat.{ℕ, _≤_, _<_}
-use mathlib.Core.Path.{_≡_, refl, sym, _∙_}
+use mathlib.Core.Path.{_≡_, refl, subst, sym}
 use mathlib.Core.Logic.{_↔_, _⊎_, inl, inr}
 use mathlib.Core.Bool.{Bool}
 use native.Mathlib.Omega.{arith}
 use lib.Dec.{ltb}
 use borrow.Author.Tests.{lt-ltb, ltb-true}
-use Rattle.tables.specs.declared.row.ConstantKind.the-variants.{True, False}
-use Rattle.tables.specs.declared.row.SignalKind.the-variants.{Sig, Nsig}
+use Rattle.tables.specs.declared.row.UnaryKind.{UnaryKind}
 use Rattle.tables.specs.declared.row.UnaryKind.the-variants.{Not, Next, Always, Ever}
+use Rattle.tables.specs.declared.row.BinaryKind.{BinaryKind}
 use Rattle.tables.specs.declared.row.BinaryKind.the-variants.{And, Or, Weak, Until, Release, Srelease}
 use Rattle.tables.specs.declared.row.Row.{Row}
 use Rattle.tables.specs.declared.row.Row.the-variants.{Constant, Signal, Unary, Binary}
@@ -18,10 +18,11 @@ use Rattle.tables.specs.declared.trace.Trace.{Trace}
 use Rattle.meaning.specs.Reading.{Reading, Either}
 use Rattle.meaning.specs.Operator as operator
 use Rattle.meaning.specs.Trace.{InfiniteTrace, signalAt, Extends}
-use Rattle.meaning.specs.Satisfaction.{Table, Means, RowTrue}
-use Rattle.meaning.specs.Strong.{StrongMeans, StrongUntil, StrongSrelease, RowStronglyTrue}
+use Rattle.meaning.specs.Satisfaction.{Table, signalMeans, unaryMeans, binaryMeans, Means, RowTrue}
+use Rattle.meaning.specs.Strong.{StrongUntil, StrongSrelease, strongUnaryMeans, strongBinaryMeans, StrongMeans, RowStronglyTrue}
+use Rattle.meaning.specs.Rows.{EachSignal, Ordered, positive, Positive}
 use Rattle.meaning.proofs.Readings.{into-itself, some-map, either-map, iff-refl, row-induction, On, on-and-off}
-use Rattle.meaning.proofs.Rows.{each-map, EachSignal, each-signal, each-signal-map, Ordered, Positive}
+use Rattle.meaning.proofs.Rows.{each-map, each-signal, each-signal-map}
 use Rattle.meaning.proofs.Monotone.{means-map}
 use Rattle.meaning.proofs.Truth.{Interprets, everyCycle, truth-interprets, strongly-true-means}
 use Rattle.meaning.proofs.Locality.{SameSignals}
@@ -48,6 +49,12 @@ module _ (R : Reading) (n i : ℕ) (i<n : i < n) where
       side (inl a) = R .unit a
       side (inr h) = absurd (not-always P h)
 
+  unary-inside : (P : ℕ → Type 0) (c : UnaryKind) → On (positive c) → strongUnaryMeans R n c P i ↔ unaryMeans R c (Inside n P) i
+  unary-inside P Not o = on-and-off o refl
+  unary-inside P Next o = iff-refl
+  unary-inside P Always o = (λ x. absurd x, not-always P)
+  unary-inside P Ever o = (some-map R (λ j x. (x.0, (x.1, x.2))), some-map R (λ j x. (x.0, x.1 .0, x.1 .1)))
+
   module _ (P Q : ℕ → Type 0) where
     until-inside : StrongUntil R n P Q i ↔ operator.Until R (Inside n P) (Inside n Q) i
     until-inside = (
@@ -61,25 +68,21 @@ module _ (R : Reading) (n i : ℕ) (i<n : i < n) where
       some-map R (λ j x. (x.0, x.1 .0, x.1 .1, λ k a b. x.2 k a b .1)),
     )
 
+    binary-inside : (c : BinaryKind) → strongBinaryMeans R n c P Q i ↔ binaryMeans R c (Inside n P) (Inside n Q) i
+    binary-inside And = (λ x. ((i<n, x.0), (i<n, x.1)), λ x. (x.0 .1, x.1 .1))
+    binary-inside Or = (either-map R (λ x. (i<n, x)) (λ x. (i<n, x)), either-map R (λ x. x .1) (λ x. x .1))
+    binary-inside Weak = (λ m. R .unit (inl (until-inside .0 m)), λ m. until-inside .1 (R .bind (only P m) (λ u. u)))
+    binary-inside Until = until-inside
+    binary-inside Release = (λ m. R .unit (inl (srelease-inside .0 m)), λ m. srelease-inside .1 (R .bind (only Q m) (λ u. u)))
+    binary-inside Srelease = srelease-inside
+
   pub strong-means-inside :
       (w w′ : InfiniteTrace) (v : ℕ → ℕ → Type 0) (r : Row) → Positive r → EachSignal (λ s. w i s ≡ w′ i s) r
       → StrongMeans R n w v r i ↔ Means R w′ (λ a. Inside n (v a)) r i
-  strong-means-inside w w′ v (Constant True) p e = iff-refl
-  strong-means-inside w w′ v (Constant False) p e = iff-refl
-  strong-means-inside w w′ v (Signal Sig s) p e = (λ x. sym e ∙ x, λ x. e ∙ x)
-  strong-means-inside w w′ v (Signal Nsig s) p e = (λ x. sym e ∙ x, λ x. e ∙ x)
-  strong-means-inside w w′ v (Unary Not a) p e = on-and-off p refl
-  strong-means-inside w w′ v (Unary Next a) p e = iff-refl
-  strong-means-inside w w′ v (Unary Always a) p e = (λ x. absurd x, not-always (v a))
-  strong-means-inside w w′ v (Unary Ever a) p e = (some-map R (λ j x. (x.0, (x.1, x.2))), some-map R (λ j x. (x.0, x.1 .0, x.1 .1)))
-  strong-means-inside w w′ v (Binary And a b) p e = (λ x. ((i<n, x.0), (i<n, x.1)), λ x. (x.0 .1, x.1 .1))
-  strong-means-inside w w′ v (Binary Or a b) p e = (either-map R (λ x. (i<n, x)) (λ x. (i<n, x)), either-map R (λ x. x .1) (λ x. x .1))
-  strong-means-inside w w′ v (Binary Weak a b) p e =
-      (λ m. R .unit (inl (until-inside (v a) (v b) .0 m)), λ m. until-inside (v a) (v b) .1 (R .bind (only (v a) m) (λ u. u)))
-  strong-means-inside w w′ v (Binary Until a b) p e = until-inside (v a) (v b)
-  strong-means-inside w w′ v (Binary Release a b) p e =
-      (λ m. R .unit (inl (srelease-inside (v a) (v b) .0 m)), λ m. srelease-inside (v a) (v b) .1 (R .bind (only (v b) m) (λ u. u)))
-  strong-means-inside w w′ v (Binary Srelease a b) p e = srelease-inside (v a) (v b)
+  strong-means-inside w w′ v (Constant c) o e = iff-refl
+  strong-means-inside w w′ v (Signal c s) o e = (subst (signalMeans c) e, subst (signalMeans c) (sym e))
+  strong-means-inside w w′ v (Unary c a) o e = unary-inside (v a) c o
+  strong-means-inside w w′ v (Binary c a b) o e = binary-inside (v a) (v b) c
 
 -- ---- strong truth interprets the rows, with the cycles below c live
 

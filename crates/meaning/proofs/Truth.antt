@@ -10,8 +10,9 @@ use Rattle.meaning.specs.Reading.{Reading}
 use Rattle.meaning.specs.Trace.{InfiniteTrace}
 use Rattle.meaning.specs.Satisfaction.{Table, Means, trueWithin, RowTrue}
 use Rattle.meaning.specs.Strong.{StrongMeans, strongWithin, RowStronglyTrue}
+use Rattle.meaning.specs.Rows.{Ordered}
 use Rattle.meaning.proofs.Readings.{On, row-induction}
-use Rattle.meaning.proofs.Rows.{each-map, Ordered}
+use Rattle.meaning.proofs.Rows.{each-map}
 use Rattle.meaning.proofs.Monotone.{means-same, strong-means-same}
 
 -- v gives each of the rows below n, at the live cycles, what the row means, and is false at the others. All cycles of an infinite

@@ -2,6 +2,9 @@ pub mod Reading
 pub mod Operator
 pub mod Trace
 pub mod Satisfaction
+pub mod Rows
+pub mod Pattern
+pub mod Approximant
 pub mod Published
 pub mod Strong
 pub mod Informative

@@ -4,10 +4,12 @@
 -- nothing.
 use Prim.Native.Nat.{ℕ, zero, suc, _≤_, _<_}
 use mathlib.Core.Path.{_≡_}
-use mathlib.Core.Bool.{true}
-use Rattle.tables.specs.declared.row.ConstantKind.the-variants.{True, False}
+use mathlib.Core.Bool.{Bool, true}
+use Rattle.tables.specs.declared.row.SignalKind.{SignalKind}
 use Rattle.tables.specs.declared.row.SignalKind.the-variants.{Sig, Nsig}
+use Rattle.tables.specs.declared.row.UnaryKind.{UnaryKind}
 use Rattle.tables.specs.declared.row.UnaryKind.the-variants.{Not, Next, Always, Ever}
+use Rattle.tables.specs.declared.row.BinaryKind.{BinaryKind}
 use Rattle.tables.specs.declared.row.BinaryKind.the-variants.{And, Or, Weak, Until, Release, Srelease}
 use Rattle.tables.specs.declared.row.Row.{Row}
 use Rattle.tables.specs.declared.row.Row.the-variants.{Constant, Signal, Unary, Binary}
@@ -15,7 +17,7 @@ use Rattle.tables.specs.declared.row.Formula.{Formula}
 use Rattle.tables.specs.declared.row.NormalForm.{NormalForm}
 use Rattle.meaning.specs.Reading.{Reading, Either, Some}
 use Rattle.meaning.specs.Trace.{InfiniteTrace}
-use Rattle.meaning.specs.Satisfaction.{Table, tableOf}
+use Rattle.meaning.specs.Satisfaction.{Table, tableOf, constantMeans}
 
 -- (π, i) ⊨ Xφ iff (π, i+1) ⊨ φ
 abbrev pub X : (ℕ → Type 0) → ℕ → Type 0
@@ -24,6 +26,11 @@ X φ i = φ (suc i)
 -- (π, i) ⊨ Gφ iff ∀ j ≥ i. (π, j) ⊨ φ
 abbrev pub G : (ℕ → Type 0) → ℕ → Type 0
 G φ i = (j : ℕ) → i ≤ j → φ j
+
+-- (π, i) ⊨ p iff p ∈ π(i); `nsig` is the figure's ¬p. `on` is p ∈ π(i).
+abbrev pub publishedSignal : SignalKind → Bool → Type 0
+publishedSignal Sig on = on ≡ true
+publishedSignal Nsig on = ¬ (on ≡ true)
 
 module _ (reading : Reading) where
   -- (π, i) ⊨ Fφ iff ∃ j ≥ i. (π, j) ⊨ φ
@@ -38,27 +45,31 @@ module _ (reading : Reading) where
   abbrev pub R : (ℕ → Type 0) → (ℕ → Type 0) → ℕ → Type 0
   R φ ψ i = (j : ℕ) → i ≤ j → Either reading (ψ j) (Some reading (λ k. (i ≤ k) × (k < j) × φ k))
 
+  -- (π, i) ⊨ ¬φ iff (π, i) ⊭ φ; and the operators above
+  abbrev pub publishedUnary : UnaryKind → (ℕ → Type 0) → ℕ → Type 0
+  publishedUnary Not φ i = ¬ φ i
+  publishedUnary Next φ i = X φ i
+  publishedUnary Always φ i = G φ i
+  publishedUnary Ever φ i = F φ i
+
+  -- (π, i) ⊨ φ ∧ ψ iff (π, i) ⊨ φ and (π, i) ⊨ ψ; (π, i) ⊨ φ ∨ ψ iff (π, i) ⊨ φ or (π, i) ⊨ ψ; and the operators above. Not in the
+  -- figure: weak until, which is φUψ ∨ Gφ (document 000, figure 1: "a holds up to the cycle before b holds, or a holds forever"); and
+  -- strong release, which is ψU(φ ∧ ψ).
+  abbrev pub publishedBinary : BinaryKind → (ℕ → Type 0) → (ℕ → Type 0) → ℕ → Type 0
+  publishedBinary And φ ψ i = φ i × ψ i
+  publishedBinary Or φ ψ i = Either reading (φ i) (ψ i)
+  publishedBinary Weak φ ψ i = Either reading (U φ ψ i) (G φ i)
+  publishedBinary Until φ ψ i = U φ ψ i
+  publishedBinary Release φ ψ i = R φ ψ i
+  publishedBinary Srelease φ ψ i = U ψ (λ j. φ j × ψ j) i
+
   module _ (π : InfiniteTrace) where
-    -- figure 1 row by row, where v says at which cycles each earlier row is true:
-    -- (π, i) ⊨ p iff p ∈ π(i); (π, i) ⊨ ¬φ iff (π, i) ⊭ φ; (π, i) ⊨ φ ∨ ψ iff (π, i) ⊨ φ or (π, i) ⊨ ψ; (π, i) ⊨ φ ∧ ψ iff
-    -- (π, i) ⊨ φ and (π, i) ⊨ ψ; and the operators above. `nsig` is the figure's ¬p. Not in the figure: the constants; weak until,
-    -- which is φUψ ∨ Gφ (document 000, figure 1: "a holds up to the cycle before b holds, or a holds forever"); and strong release,
-    -- which is ψU(φ ∧ ψ).
+    -- figure 1 row by row, where v says at which cycles each earlier row is true; the constants are not in the figure
     abbrev pub PublishedMeans : (ℕ → ℕ → Type 0) → Row → ℕ → Type 0
-    PublishedMeans v (Constant True) i = Unit {0}
-    PublishedMeans v (Constant False) i = ⊥
-    PublishedMeans v (Signal Sig p) i = π i p ≡ true
-    PublishedMeans v (Signal Nsig p) i = ¬ (π i p ≡ true)
-    PublishedMeans v (Unary Not φ) i = ¬ v φ i
-    PublishedMeans v (Unary Next φ) i = X (v φ) i
-    PublishedMeans v (Unary Always φ) i = G (v φ) i
-    PublishedMeans v (Unary Ever φ) i = F (v φ) i
-    PublishedMeans v (Binary And φ ψ) i = v φ i × v ψ i
-    PublishedMeans v (Binary Or φ ψ) i = Either reading (v φ i) (v ψ i)
-    PublishedMeans v (Binary Weak φ ψ) i = Either reading (U (v φ) (v ψ) i) (G (v φ) i)
-    PublishedMeans v (Binary Until φ ψ) i = U (v φ) (v ψ) i
-    PublishedMeans v (Binary Release φ ψ) i = R (v φ) (v ψ) i
-    PublishedMeans v (Binary Srelease φ ψ) i = U (v ψ) (λ j. v φ j × v ψ j) i
+    PublishedMeans v (Constant c) i = constantMeans c
+    PublishedMeans v (Signal c p) i = publishedSignal c (π i p)
+    PublishedMeans v (Unary c φ) i = publishedUnary c (v φ) i
+    PublishedMeans v (Binary c φ ψ) i = publishedBinary c (v φ) (v ψ) i
 
     -- row k is true at cycle i by figure 1; the depth as for RowTrue (law `published-means`)
     unfoldable pub publishedWithin : Table → ℕ → ℕ → ℕ → Type 0

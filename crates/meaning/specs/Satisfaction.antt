@@ -1,12 +1,16 @@
 -- Satisfaction of a formula on an infinite trace (01, "Meaning"). Assumes nothing.
 use Prim.Native.Nat.{ℕ, zero, suc}
 use mathlib.Core.Path.{_≡_}
-use mathlib.Core.Bool.{true, false}
+use mathlib.Core.Bool.{Bool, true, false}
 use mathlib.Core.List.{List}
 use lib.ListN.{getD}
+use Rattle.tables.specs.declared.row.ConstantKind.{ConstantKind}
 use Rattle.tables.specs.declared.row.ConstantKind.the-variants.{True, False}
+use Rattle.tables.specs.declared.row.SignalKind.{SignalKind}
 use Rattle.tables.specs.declared.row.SignalKind.the-variants.{Sig, Nsig}
+use Rattle.tables.specs.declared.row.UnaryKind.{UnaryKind}
 use Rattle.tables.specs.declared.row.UnaryKind.the-variants.{Not, Next, Always, Ever}
+use Rattle.tables.specs.declared.row.BinaryKind.{BinaryKind}
 use Rattle.tables.specs.declared.row.BinaryKind.the-variants.{And, Or, Weak, Until, Release, Srelease}
 use Rattle.tables.specs.declared.row.Row.{Row}
 use Rattle.tables.specs.declared.row.Row.the-variants.{Constant, Signal, Unary, Binary}
@@ -25,24 +29,37 @@ abbrev pub tableOf : List RowPlace → Table
 tableOf ps zero = Constant True
 tableOf ps (suc k) = getD ps k (record { row = Constant True }) .row
 
+-- "signals and logic as usual": what each kind of row says. `on` is the signal; an operand is given by the cycles at which it is true.
+abbrev pub constantMeans : ConstantKind → Type 0
+constantMeans True = Unit {0}
+constantMeans False = ⊥
+
+abbrev pub signalMeans : SignalKind → Bool → Type 0
+signalMeans Sig on = on ≡ true
+signalMeans Nsig on = on ≡ false
+
+module _ (R : Reading) where
+  abbrev pub unaryMeans : UnaryKind → (ℕ → Type 0) → ℕ → Type 0
+  unaryMeans Not a i = ¬ a i
+  unaryMeans Next a i = operator.Next a i
+  unaryMeans Always a i = operator.Always a i
+  unaryMeans Ever a i = operator.Ever R a i
+
+  abbrev pub binaryMeans : BinaryKind → (ℕ → Type 0) → (ℕ → Type 0) → ℕ → Type 0
+  binaryMeans And a b i = a i × b i
+  binaryMeans Or a b i = Either R (a i) (b i)
+  binaryMeans Weak a b i = operator.Weak R a b i
+  binaryMeans Until a b i = operator.Until R a b i
+  binaryMeans Release a b i = operator.Release R a b i
+  binaryMeans Srelease a b i = operator.Srelease R a b i
+
 module _ (R : Reading) (w : InfiniteTrace) where
-  -- what a row says at cycle i of w, where v says at which cycles each earlier row is true: "signals and logic as usual", and the
-  -- operators
+  -- what a row says at cycle i of w, where v says at which cycles each earlier row is true
   abbrev pub Means : (ℕ → ℕ → Type 0) → Row → ℕ → Type 0
-  Means v (Constant True) i = Unit {0}
-  Means v (Constant False) i = ⊥
-  Means v (Signal Sig s) i = w i s ≡ true
-  Means v (Signal Nsig s) i = w i s ≡ false
-  Means v (Unary Not a) i = ¬ v a i
-  Means v (Unary Next a) i = operator.Next (v a) i
-  Means v (Unary Always a) i = operator.Always (v a) i
-  Means v (Unary Ever a) i = operator.Ever R (v a) i
-  Means v (Binary And a b) i = v a i × v b i
-  Means v (Binary Or a b) i = Either R (v a i) (v b i)
-  Means v (Binary Weak a b) i = operator.Weak R (v a) (v b) i
-  Means v (Binary Until a b) i = operator.Until R (v a) (v b) i
-  Means v (Binary Release a b) i = operator.Release R (v a) (v b) i
-  Means v (Binary Srelease a b) i = operator.Srelease R (v a) (v b) i
+  Means v (Constant c) i = constantMeans c
+  Means v (Signal c s) i = signalMeans c (w i s)
+  Means v (Unary c a) i = unaryMeans R c (v a) i
+  Means v (Binary c a b) i = binaryMeans R c (v a) (v b) i
 
   -- row k is true at cycle i, read to a depth of d rows
   unfoldable pub trueWithin : Table → ℕ → ℕ → ℕ → Type 0

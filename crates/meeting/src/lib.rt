@@ -75,10 +75,9 @@ fn check_met(formula: Formula, trace: Trace, wanted: Wanted) -> Outcome
     ensures outcome { λ r. ⌜ r ≡ meetingOutcome wanted formula trace ⌝ }
 {
     let ending = trace.ending;
-    first_refusal(
-        check_signals(formula.signals, trace.signals),
-        check_ending(wanted, ending),
-    )
+    let seven = check_signals(formula.signals, trace.signals);
+    let eight = check_ending(wanted, ending);
+    first_refusal(seven, eight)
 }
 
 fn no_form() -> NormalForm {

@@ -14,8 +14,9 @@ use Rattle.meaning.specs.Reading.{Reading}
 use Rattle.meaning.specs.Trace.{InfiniteTrace, signalAt, position, unrolled}
 use Rattle.meaning.specs.Satisfaction.{Table, tableOf, RowTrue, SatisfiesNormal}
 use Rattle.meaning.specs.Strong.{RowStronglyTrue}
+use Rattle.meaning.specs.Rows.{Each, Ordered, Positive}
 use Rattle.meaning.proofs.Readings.{On}
-use Rattle.meaning.proofs.Rows.{Each, each-map, each-signal, Ordered, Positive}
+use Rattle.meaning.proofs.Rows.{each-map, each-signal}
 use Rattle.meaning.proofs.Truth.{true-means, strongly-true-means}
 use Rattle.meaning.proofs.Periodic.{position-first}
 use Rattle.monitors.specs.Along.{Activators, output}

@@ -8,7 +8,8 @@ use Rattle.tables.specs.declared.row.Row.{Row}
 use Rattle.tables.specs.declared.row.Row.the-variants.{Constant, Signal, Unary, Binary}
 use Rattle.meaning.specs.Trace.{InfiniteTrace}
 use Rattle.meaning.specs.Satisfaction.{Table}
-use Rattle.meaning.proofs.Rows.{Each, each-map, EachSignal}
+use Rattle.meaning.specs.Rows.{Each, EachSignal}
+use Rattle.meaning.proofs.Rows.{each-map}
 use Rattle.monitors.specs.declared.State.{State}
 use Rattle.monitors.specs.Monitor.{signalMonitor, unaryMonitor, binaryMonitor, monitor}
 use Rattle.monitors.specs.Along.{Activators, pendingBefore, output}

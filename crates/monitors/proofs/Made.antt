@@ -5,17 +5,20 @@ use mathlib.Core.Path.{_≡_, refl, sym, ap, ap₂, _∙_}
 use mathlib.Core.Logic.{_⊎_, inl, inr}
 use mathlib.Core.Bool.{Bool, true, false, not, _&&_, _||_}
 use native.Mathlib.Omega.{arith}
+use Rattle.tables.specs.declared.row.UnaryKind.{UnaryKind}
 use Rattle.tables.specs.declared.row.UnaryKind.the-variants.{Not, Next, Always, Ever}
 use Rattle.tables.specs.declared.row.Row.{Row}
 use Rattle.tables.specs.declared.row.Row.the-variants.{Constant, Signal, Unary, Binary}
 use Rattle.meaning.specs.Trace.{InfiniteTrace}
 use Rattle.meaning.specs.Satisfaction.{Table}
+use Rattle.meaning.specs.Rows.{Each, positive, Positive}
+use Rattle.meaning.specs.Pattern.{Pattern, Pattern.now, Pattern.next, Pattern.connective, Pattern.temporal}
+use Rattle.meaning.specs.Pattern.{unaryLeft, unaryPattern, binaryPattern, left, right, patternOf, keepBit, goalBit, keepBits, goalBits, signedBit, operandBits}
 use Rattle.meaning.proofs.Readings.{On, on-and-off, on-or-off}
-use Rattle.meaning.proofs.Rows.{Each, each-map, Positive}
+use Rattle.meaning.proofs.Rows.{each-map}
 use Rattle.meaning.proofs.Periodic.{Periodic}
 use Rattle.meaning.proofs.Streams.{expand-cases, approximant-is, approximant-expands, Reached, KeptForever}
-use Rattle.meaning.proofs.Pattern.{Pattern, Pattern.now, Pattern.next, Pattern.connective, Pattern.temporal, binaryPattern, left, right, patternOf}
-use Rattle.meaning.proofs.PatternBits.{keepBit, goalBit, keepBits, goalBits, patternBit, operandBits, rowBit}
+use Rattle.meaning.proofs.PatternBits.{patternBit, rowBit}
 use Rattle.meaning.proofs.Evaluation.{Evaluation, operands-periodic}
 use Rattle.monitors.specs.declared.Output.{Output}
 use Rattle.monitors.specs.Along.{pendingBefore, output}
@@ -82,6 +85,14 @@ module _ (a b : ℕ → Bool) (c : ℕ) where
   ends oa ob (connective f) = tt
   ends oa ob (temporal true w) = (ob, λ _ x. on-and-off x (oa c (omega arith)))
   ends oa ob (temporal false w) = (ob, λ _ x. on-and-off x (ob c (omega arith)))
+
+unary-ends :
+    (b : ℕ → Bool) (c : ℕ) → ((j : ℕ) → c ≤ j → b j ≡ false) → (k : UnaryKind) → On (positive k)
+    → Ends (λ j. unaryLeft k) (λ j. signedBit (positive k) (b j)) c (unaryPattern k)
+unary-ends b c ob Not o = on-and-off o refl
+unary-ends b c ob Next o = ob
+unary-ends b c ob Always o = (ob, λ _ x. on-and-off x (ob c (omega arith)))
+unary-ends b c ob Ever o = (ob, λ x. on-and-off x refl)
 
 -- ---- one pattern: a and b are the operands' bits, z the row's activator, y its pendings
 
@@ -246,8 +257,5 @@ module _ (live : ℕ → Bool) (w : InfiniteTrace) (t : Table) (m : ℕ) (bits :
       row-ends : (r : Row) → Positive r → Each (λ a. (j : ℕ) → c ≤ j → bits a j ≡ false) r → Ends (operandBits w bits (left r)) (operandBits w bits (right r)) c (patternOf r)
       row-ends (Constant x) p d = tt
       row-ends (Signal x s) p d = tt
-      row-ends (Unary Not a) p d = on-and-off p refl
-      row-ends (Unary Next a) p d = d
-      row-ends (Unary Always a) p d = (d, λ _ x. on-and-off x (d c (omega arith)))
-      row-ends (Unary Ever a) p d = (d, λ x. on-and-off x refl)
+      row-ends (Unary x a) p d = unary-ends (bits a) c d x p
       row-ends (Binary x a b) p d = ends _ _ c (d .0) (d .1) (binaryPattern x)

@@ -6,23 +6,20 @@ use mathlib.Core.Path.{_≡_, refl, subst, sym, ap, _∙_}
 use mathlib.Core.Logic.{_⊎_, inl, inr}
 use mathlib.Core.Bool.{Bool, true, false, _&&_, _||_}
 use native.Mathlib.Omega.{arith}
-use Rattle.tables.specs.declared.row.ConstantKind.the-variants.{True, False}
-use Rattle.tables.specs.declared.row.SignalKind.the-variants.{Sig, Nsig}
-use Rattle.tables.specs.declared.row.UnaryKind.the-variants.{Not, Next, Always, Ever}
-use Rattle.tables.specs.declared.row.BinaryKind.the-variants.{And, Or, Weak, Until, Release, Srelease}
 use Rattle.tables.specs.declared.row.Row.{Row}
-use Rattle.tables.specs.declared.row.Row.the-variants.{Constant, Signal, Unary, Binary}
 use Rattle.meaning.specs.Reading.{classical, Some}
 use Rattle.meaning.specs.Operator.{During}
 use Rattle.meaning.specs.Trace.{InfiniteTrace, position}
 use Rattle.meaning.specs.Satisfaction.{Table}
+use Rattle.meaning.specs.Pattern.{Pattern, Pattern.now, Pattern.next, Pattern.connective, Pattern.temporal}
 use Rattle.meaning.proofs.Readings.{lt-or-le, induction-from, On, on-and-off}
 use Rattle.meaning.proofs.Periodic.{Periodic, position-periodic}
 use Rattle.meaning.proofs.Carry.{carried}
 use Rattle.meaning.proofs.Lasso.{lasso}
 use Rattle.monitors.specs.declared.Output.{Output}
-use Rattle.monitors.specs.Monitor.{monitor}
+use Rattle.monitors.specs.Monitor.{firstOf, secondOf, monitor}
 use Rattle.monitors.specs.Along.{Activators, pendingBefore, output}
+use Rattle.monitors.proofs.ByPattern.{patternMonitor, each-pattern}
 use Rattle.monitors.proofs.Sheets.{lassoOutput}
 
 -- ---- what repeats from cycle b on after N cycles
@@ -54,26 +51,22 @@ grows d true x y f e = e
 grows d false true y f e = subst (λ v. On (v && d)) (sym (f refl)) e
 grows d false false y f e = on-and-off e refl
 
-module _ (act signals : ℕ → Bool) (z x y : Bool) (f : On x → On y) where
-  pending-grows : (r : Row) → On (monitor act signals r (record { active = z; pending = x }) .pending) → On (monitor act signals r (record { active = z; pending = y }) .pending)
-  pending-grows (Constant True) e = e
-  pending-grows (Constant False) e = e
-  pending-grows (Signal Sig n) e = e
-  pending-grows (Signal Nsig n) e = e
-  pending-grows (Unary Not a) e = e
-  pending-grows (Unary Next a) e = e
-  pending-grows (Unary Always a) e = or-grows z e
-    where
-      or-grows : (z : Bool) → On (z || x) → On (z || y)
-      or-grows true e = e
-      or-grows false e = f e
-  pending-grows (Unary Ever a) e = grows _ z x y f e
-  pending-grows (Binary And a b) e = e
-  pending-grows (Binary Or a b) e = e
-  pending-grows (Binary Weak a b) e = grows _ z x y f e
-  pending-grows (Binary Until a b) e = grows _ z x y f e
-  pending-grows (Binary Release a b) e = grows _ z x y f e
-  pending-grows (Binary Srelease a b) e = grows _ z x y f e
+module _ (z x y : Bool) (f : On x → On y) where
+  pattern-grows :
+      (l r : Bool) (p : Pattern) → On (patternMonitor l r (record { active = z; pending = x }) p .pending)
+      → On (patternMonitor l r (record { active = z; pending = y }) p .pending)
+  pattern-grows l r now e = e
+  pattern-grows l r next e = e
+  pattern-grows l r (connective g) e = e
+  pattern-grows l r (temporal g true) e = grows _ z x y f e
+  pattern-grows l r (temporal g false) e = grows _ z x y f e
+
+  pending-grows :
+      (act signals : ℕ → Bool) (r : Row) → On (monitor act signals r (record { active = z; pending = x }) .pending)
+      → On (monitor act signals r (record { active = z; pending = y }) .pending)
+  pending-grows act signals r =
+      each-pattern (λ m. On (m (record { active = z; pending = x }) .pending) → On (m (record { active = z; pending = y }) .pending))
+      pattern-grows r (firstOf act signals r) (secondOf act r)
 
 -- ---- where signals and activators are periodic from b on, outputs are one round later
 
@@ -87,7 +80,7 @@ module _ (N b : ℕ) (t : Table) (w : InfiniteTrace) (act : Activators) (signals
 
   pending-periodic : Periodic N (b + N) (λ i. pendingBefore t w act i k)
   unfolding pendingBefore says
-  pending-periodic = carried N b (λ i y. says i y .pending) (λ i x y f. pending-grows (act i) (w i) (act i k) x y f (t k))
+  pending-periodic = carried N b (λ i y. says i y .pending) (λ i x y f. pending-grows (act i k) x y f (act i) (w i) (t k))
       (λ i h y. ap (λ o. o .pending) (says-periodic i h y)) (λ i. pendingBefore t w act i k) (λ i. refl)
 
   pub output-periodic : Periodic N (b + N) (λ i. output t w act i k)

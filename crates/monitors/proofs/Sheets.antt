@@ -13,12 +13,13 @@ use Rattle.meaning.specs.Reading.{Reading, classical, Some}
 use Rattle.meaning.specs.Trace.{InfiniteTrace, position}
 use Rattle.meaning.specs.Satisfaction.{Table, RowTrue}
 use Rattle.meaning.specs.Strong.{RowStronglyTrue}
+use Rattle.meaning.specs.Rows.{Each, EachSignal, Ordered, Positive}
+use Rattle.meaning.specs.Pattern.{Pattern, Pattern.now, Pattern.next, Pattern.connective, Pattern.temporal, left, right, patternOf, operandBits}
 use Rattle.meaning.proofs.Readings.{lt-or-le, On, on-and-off, bools-equal, classical-full}
-use Rattle.meaning.proofs.Rows.{Each, each-map, EachSignal, each-signal, Ordered, Positive}
+use Rattle.meaning.proofs.Rows.{each-map, each-signal}
 use Rattle.meaning.proofs.Truth.{everyCycle}
 use Rattle.meaning.proofs.Periodic.{position-first, position-below}
-use Rattle.meaning.proofs.Pattern.{Pattern, Pattern.now, Pattern.next, Pattern.connective, Pattern.temporal, left, right, patternOf}
-use Rattle.meaning.proofs.PatternBits.{operandBits, rowBit}
+use Rattle.meaning.proofs.PatternBits.{rowBit}
 use Rattle.meaning.proofs.Evaluation.{Computes, Evaluation, bitsOf, bits-computed, row-bit-local}
 use Rattle.meaning.proofs.Lasso.{twoRounds, lasso, ComputesLasso, lasso-evaluation, lasso-bits-computed, lasso-unrolls, lasso-truth, lasso-readings}
 use Rattle.meaning.proofs.StrongTruth.{cyclesBelow, Inside, strong-interprets}

@@ -11,12 +11,15 @@ use Rattle.meaning.specs.Reading.{Reading}
 use Rattle.meaning.specs.Operator.{During, Until}
 use Rattle.meaning.specs.Trace.{InfiniteTrace}
 use Rattle.meaning.specs.Satisfaction.{Table, RowTrue}
+use Rattle.meaning.specs.Rows.{Ordered, Positive}
+use Rattle.meaning.specs.Pattern.{Pattern, Pattern.now, Pattern.next, Pattern.connective, Pattern.temporal}
+use Rattle.meaning.specs.Pattern.{left, right, patternOf, keepBit, goalBit, connectiveBit, operandBits}
 use Rattle.meaning.proofs.Readings.{iff-refl, induction-from, row-induction, On, on-and-off, Full}
-use Rattle.meaning.proofs.Rows.{each-map, Ordered, Positive}
+use Rattle.meaning.proofs.Rows.{each-map}
 use Rattle.meaning.proofs.Truth.{Interprets, everyCycle, truth-interprets}
-use Rattle.meaning.proofs.Pattern.{Pattern, Pattern.now, Pattern.next, Pattern.connective, Pattern.temporal, Keeps, Goals, Holds, OperandTrue, both-positive-operands, left, right, patternOf}
+use Rattle.meaning.proofs.Pattern.{Keeps, Goals, Holds, OperandTrue, both-positive-operands}
 use Rattle.meaning.proofs.MeaningByPattern.{holds-map, interprets-pattern}
-use Rattle.meaning.proofs.PatternBits.{keepBit, goalBit, connectiveBit, operandBits, keep-iff, goal-iff, connective-iff, signal-iff}
+use Rattle.meaning.proofs.PatternBits.{keep-iff, goal-iff, connective-iff, signal-iff}
 use Rattle.monitors.specs.declared.Output.{Output}
 use Rattle.monitors.specs.Monitor.{monitor}
 use Rattle.monitors.specs.Along.{Activators, pendingBefore}

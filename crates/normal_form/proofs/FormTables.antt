@@ -21,7 +21,8 @@ use Rattle.rule_row.specs.Row.{isSignal, inRange}
 use Rattle.rule_file.specs.Rule.{inPlace, unused}
 use Rattle.rule_row.proofs.Laws.{signal-most}
 use Rattle.meaning.specs.Satisfaction.{tableOf}
-use Rattle.meaning.proofs.Rows.{Each, each-map, EachSignal, each-signal-map, Ordered, Positive}
+use Rattle.meaning.specs.Rows.{Each, EachSignal, Ordered, Positive}
+use Rattle.meaning.proofs.Rows.{each-map, each-signal-map}
 use Rattle.normal_form.specs.Operand.{rowIn, isNot}
 use Rattle.normal_form.specs.Form.{InNormalForm}
 use Rattle.normal_form.proofs.Operands.{range-below}

@@ -1,6 +1,6 @@
 -- Laws of rows by their operands. Assumes nothing.
 use mathlib.Core.Path.{_≡_, refl, sym, ap, ap₂, _∙_}
-use mathlib.Core.Bool.{true, false, true≢false}
+use mathlib.Core.Bool.{true, not, true≢false}
 use mathlib.Core.Logic.{inl, inr}
 use Prim.Native.Nat.{ℕ, _+_, _*_, _-_, _/_, _≤_, _<_}
 use native.Mathlib.Omega.{arith}
@@ -8,21 +8,21 @@ use native.Mathlib.Decide.{decLt, ℕ-discrete}
 use lib.ListN.{length, getD, take, List·getD-map, List·getD-eq-default}
 use lib.Seq.{getD-take}
 use borrow.Author.Tests.{eq-eqb, ne-eqb, lt-ltb, ltb-true}
-use Rattle.tables.specs.Kind.{kinds, kindAt, dualOf, firstNumber}
+use Rattle.tables.specs.Kind.{dualOf, firstNumber}
 use Rattle.tables.specs.declared.row.ConstantKind.{ConstantKind}
-use Rattle.tables.specs.declared.row.ConstantKind.the-variants.{True, False}
 use Rattle.tables.specs.declared.row.SignalKind.{SignalKind}
-use Rattle.tables.specs.declared.row.SignalKind.the-variants.{Sig, Nsig}
 use Rattle.tables.specs.declared.row.UnaryKind.{UnaryKind}
 use Rattle.tables.specs.declared.row.UnaryKind.the-variants.{Not, Next, Always, Ever}
 use Rattle.tables.specs.declared.row.BinaryKind.{BinaryKind}
-use Rattle.tables.specs.declared.row.BinaryKind.the-variants.{And, Or, Weak, Until, Release, Srelease}
 use Rattle.tables.specs.declared.row.Row.{Row}
 use Rattle.tables.specs.declared.row.Row.the-variants.{Constant, Signal, Unary, Binary}
 use Rattle.tables.specs.declared.row.RowPlace.{RowPlace}
 use Rattle.tables.specs.declared.row.Formula.{Formula}
 use Rattle.text.proofs.Laws.{ok-at}
 use Rattle.tables.proofs.Choices.{pick-both}
+use Rattle.tables.proofs.Duals.{dual-constant, dual-signal, dual-unary, dual-binary}
+use Rattle.meaning.specs.Rows.{positive}
+use Rattle.meaning.proofs.RowDuality.{positive-dual}
 use Rattle.rule_row.specs.Row.{isOperand, inRange}
 use Rattle.rule_file.specs.Rule.{inPlace, unused}
 use Rattle.rule_file.specs.Valid.{InRange}
@@ -34,13 +34,16 @@ use Rattle.normal_form.specs.Sign.{signed}
 
 -- ---- `not` rows
 
+not-kind : (c : UnaryKind) → not (positive c) ≡ true → c ≡ Not
+not-kind Not e = refl
+not-kind Next e = absurd (true≢false (sym e))
+not-kind Always e = absurd (true≢false (sym e))
+not-kind Ever e = absurd (true≢false (sym e))
+
 pub not-row : (r : Row) → isNot r ≡ true → r ≡ Unary Not (firstNumber r)
 not-row (Constant c) e = absurd (true≢false (sym e))
 not-row (Signal c s) e = absurd (true≢false (sym e))
-not-row (Unary Not a) e = refl
-not-row (Unary Next a) e = absurd (true≢false (sym e))
-not-row (Unary Always a) e = absurd (true≢false (sym e))
-not-row (Unary Ever a) e = absurd (true≢false (sym e))
+not-row (Unary c a) e = ap (λ k. Unary k a) (not-kind c e)
 not-row (Binary c a b) e = absurd (true≢false (sym e))
 
 pub not-operand : (r : Row) → isNot r ≡ true → OperandOf r (firstNumber r)
@@ -67,10 +70,7 @@ same-mapped g h (Binary c a b) e = ap₂ (Binary c) (e a (inl refl)) (e b (inr r
 pub not-mapped : (g : ℕ → ℕ) (r : Row) → isNot (withOperands g r) ≡ isNot r
 not-mapped g (Constant c) = refl
 not-mapped g (Signal c s) = refl
-not-mapped g (Unary Not a) = refl
-not-mapped g (Unary Next a) = refl
-not-mapped g (Unary Always a) = refl
-not-mapped g (Unary Ever a) = refl
+not-mapped g (Unary c a) = refl
 not-mapped g (Binary c a b) = refl
 
 -- ---- a row and its dual
@@ -89,21 +89,10 @@ alike-self (Unary c a) = two-unaries refl
 alike-self (Binary c a b) = two-binaries
 
 alike-dual : (r : Row) → Alike r (dualOf r)
-unfolding dualOf kindAt kinds
-alike-dual (Constant True) = two-constants
-alike-dual (Constant False) = two-constants
-alike-dual (Signal Sig s) = two-signals
-alike-dual (Signal Nsig s) = two-signals
-alike-dual (Unary Not a) = two-unaries refl
-alike-dual (Unary Next a) = two-unaries refl
-alike-dual (Unary Always a) = two-unaries refl
-alike-dual (Unary Ever a) = two-unaries refl
-alike-dual (Binary And a b) = two-binaries
-alike-dual (Binary Or a b) = two-binaries
-alike-dual (Binary Weak a b) = two-binaries
-alike-dual (Binary Until a b) = two-binaries
-alike-dual (Binary Release a b) = two-binaries
-alike-dual (Binary Srelease a b) = two-binaries
+alike-dual (Constant c) = rw (dual-constant c) two-constants
+alike-dual (Signal c s) = rw (dual-signal c s) two-signals
+alike-dual (Unary c a) = rw (dual-unary c a) (two-unaries (ap not (positive-dual c)))
+alike-dual (Binary c a b) = rw (dual-binary c a b) two-binaries
 
 pub alike-signed : (s : Sign) (r : Row) → Alike r (signed s r)
 alike-signed Plain r = alike-self r

@@ -2,17 +2,14 @@
 use Prim.Native.Nat.{ℕ, zero, suc, _-_, _≤_, _<_}
 use mathlib.Core.Path.{_≡_, refl, sym, ap, _∙_, subst, subst⁻¹}
 use mathlib.Core.Logic.{_↔_, inl, inr, Iff·trans, Iff·symm}
-use mathlib.Core.Bool.{Bool, true, false, true≢false}
+use mathlib.Core.Bool.{Bool, true, false, not, true≢false}
 use mathlib.Core.List.{List}
 use native.Mathlib.Omega.{arith}
 use lib.ListN.{length, getD}
 use Rattle.tables.specs.Choice.{pick}
+use Rattle.tables.specs.Kind.{firstNumber}
 use Rattle.tables.specs.Place.{placed}
 use Rattle.tables.proofs.Places.{getD-tabulate}
-use Rattle.tables.specs.declared.row.ConstantKind.the-variants.{True, False}
-use Rattle.tables.specs.declared.row.SignalKind.the-variants.{Sig, Nsig}
-use Rattle.tables.specs.declared.row.UnaryKind.the-variants.{Not, Next, Always, Ever}
-use Rattle.tables.specs.declared.row.BinaryKind.the-variants.{And, Or, Weak, Until, Release, Srelease}
 use Rattle.tables.specs.declared.row.Row.{Row}
 use Rattle.tables.specs.declared.row.Row.the-variants.{Constant, Signal, Unary, Binary}
 use Rattle.tables.specs.declared.row.RowPlace.{RowPlace}
@@ -21,8 +18,9 @@ use Rattle.rule_file.specs.Rule.{inPlace, unused}
 use Rattle.meaning.specs.Reading.{Reading}
 use Rattle.meaning.specs.Trace.{InfiniteTrace}
 use Rattle.meaning.specs.Satisfaction.{Table, tableOf, Means, RowTrue}
-use Rattle.meaning.proofs.Readings.{iff-refl, Full, into-itself, not-not-stable, row-induction}
-use Rattle.meaning.proofs.Rows.{Each, each-map, each-signal, Ordered, Positive}
+use Rattle.meaning.specs.Rows.{Each, Ordered, positive, Positive}
+use Rattle.meaning.proofs.Readings.{iff-refl, Full, into-itself, not-not-stable, row-induction, not-false}
+use Rattle.meaning.proofs.Rows.{each-map, each-signal}
 use Rattle.meaning.proofs.Truth.{true-means}
 use Rattle.meaning.proofs.Monotone.{means-map}
 use Rattle.meaning.proofs.MeaningByPattern.{truth-stable}
@@ -33,26 +31,15 @@ use Rattle.normal_form.specs.Operand.{rowIn, rowOf, isNot, OperandOf, Be
 use Rattle.normal_form.specs.Sign.{turned, signed}
 use Rattle.normal_form.specs.Reached.{Reached, Reached.root, Reached.operand}
 use Rattle.normal_form.specs.Normal.{Listed, rowAt, Normal}
+use Rattle.normal_form.proofs.Operands.{not-row}
 
 -- ---- rows
 
 pub positive-row : (r : Row) → isNot r ≡ false → Positive r
 positive-row (Constant c) e = tt
 positive-row (Signal c s) e = tt
-positive-row (Unary Not a) e = absurd (true≢false e)
-positive-row (Unary Next a) e = refl
-positive-row (Unary Always a) e = refl
-positive-row (Unary Ever a) e = refl
+positive-row (Unary c a) e = not-false (positive c) (λ f. absurd (true≢false (sym (ap not f) ∙ e)))
 positive-row (Binary c a b) e = tt
-
-not-row : (r : Row) → isNot r ≡ true → (a : ℕ) × (r ≡ Unary Not a)
-not-row (Constant c) e = absurd (true≢false (sym e))
-not-row (Signal c s) e = absurd (true≢false (sym e))
-not-row (Unary Not a) e = (a, refl)
-not-row (Unary Next a) e = absurd (true≢false (sym e))
-not-row (Unary Always a) e = absurd (true≢false (sym e))
-not-row (Unary Ever a) e = absurd (true≢false (sym e))
-not-row (Binary c a b) e = absurd (true≢false (sym e))
 
 pub each-operand : (P : ℕ → Type 0) (r : Row) → ((x : ℕ) → OperandOf r x → P x) → Each P r
 each-operand P (Constant c) f = tt
@@ -61,20 +48,10 @@ each-operand P (Unary c a) f = f a refl
 each-operand P (Binary c a b) f = (f a (inl refl), f b (inr refl))
 
 renumbered : (R : Reading) (w : InfiniteTrace) (u : ℕ → ℕ → Type 0) (g : ℕ → ℕ) (i : ℕ) (r : Row) → Means R w u (withOperands g r) i ↔ Means R w (λ a. u (g a)) r i
-renumbered R w u g i (Constant True) = iff-refl
-renumbered R w u g i (Constant False) = iff-refl
-renumbered R w u g i (Signal Sig s) = iff-refl
-renumbered R w u g i (Signal Nsig s) = iff-refl
-renumbered R w u g i (Unary Not a) = iff-refl
-renumbered R w u g i (Unary Next a) = iff-refl
-renumbered R w u g i (Unary Always a) = iff-refl
-renumbered R w u g i (Unary Ever a) = iff-refl
-renumbered R w u g i (Binary And a b) = iff-refl
-renumbered R w u g i (Binary Or a b) = iff-refl
-renumbered R w u g i (Binary Weak a b) = iff-refl
-renumbered R w u g i (Binary Until a b) = iff-refl
-renumbered R w u g i (Binary Release a b) = iff-refl
-renumbered R w u g i (Binary Srelease a b) = iff-refl
+renumbered R w u g i (Constant c) = iff-refl
+renumbered R w u g i (Signal c s) = iff-refl
+renumbered R w u g i (Unary c a) = iff-refl
+renumbered R w u g i (Binary c a b) = iff-refl
 
 -- ---- tables
 
@@ -164,11 +141,11 @@ module _ (f : Formula) (sign : Sign) (number : ℕ → Sign → ℕ) (rows : Lis
             by : (b : Bool) → isNot (rowOf f k) ≡ b → Under s (v k i)
             by true e =
                 let h = reached-row r in
-                let n = not-row (rowOf f k) e in
-                let o : OperandOf (rowOf f k) (n .0) = subst⁻¹ (λ y. OperandOf y (n .0)) (n .1) refl in
-                let ra : Reached f sign (n .0) (turned s) = subst (Reached f sign (n .0)) (ap (λ b. pick b (turned s) s) e) (operand (n .0) r o) in
-                let y = ih (n .0) (below k (h .0) (h .1) (n .0) o .1) (turned s) ra i (subst (λ z. u z i) (normal .not-stands k s (n .0) r (n .1)) x) in
-                under-map s (Iff·symm (subst (λ z. v k i ↔ Means R w v z i) (n .1) (says k (h .0) (h .1) i))) (turned-not s (v (n .0) i) y)
+                let a = firstNumber (rowOf f k) in let n = not-row (rowOf f k) e in
+                let o : OperandOf (rowOf f k) a = subst⁻¹ (λ y. OperandOf y a) n refl in
+                let ra : Reached f sign a (turned s) = subst (Reached f sign a) (ap (λ b. pick b (turned s) s) e) (operand a r o) in
+                let y = ih a (below k (h .0) (h .1) a o .1) (turned s) ra i (subst (λ z. u z i) (normal .not-stands k s a r n) x) in
+                under-map s (Iff·symm (subst (λ z. v k i ↔ Means R w v z i) n (says k (h .0) (h .1) i))) (turned-not s (v a i) y)
             by false e =
                 let h = reached-row r in
                 let l : Listed f sign k s = (r, e) in
@@ -199,12 +176,12 @@ module _ (f : Formula) (sign : Sign) (number : ℕ → Sign → ℕ) (rows : Lis
               by : (b : Bool) → isNot (rowOf f k) ≡ b → u (number k s) i
               by true e =
                   let h = reached-row r in
-                  let n = not-row (rowOf f k) e in
-                  let o : OperandOf (rowOf f k) (n .0) = subst⁻¹ (λ y. OperandOf y (n .0)) (n .1) refl in
-                  let b = below k (h .0) (h .1) (n .0) o in
-                  let ra : Reached f sign (n .0) (turned s) = subst (Reached f sign (n .0)) (ap (λ b. pick b (turned s) s) e) (operand (n .0) r o) in
-                  let y : Under s (¬ v (n .0) i) = under-map s (subst (λ z. v k i ↔ Means R w v z i) (n .1) (says k (h .0) (h .1) i)) x in
-                  subst⁻¹ (λ z. u z i) (normal .not-stands k s (n .0) r (n .1)) (ih (n .0) (b .1) (turned s) ra i (turned-back s (v (n .0) i) (not-not (n .0) (omega (arith, b .1, h .1)) i) y))
+                  let a = firstNumber (rowOf f k) in let n = not-row (rowOf f k) e in
+                  let o : OperandOf (rowOf f k) a = subst⁻¹ (λ y. OperandOf y a) n refl in
+                  let b = below k (h .0) (h .1) a o in
+                  let ra : Reached f sign a (turned s) = subst (Reached f sign a) (ap (λ b. pick b (turned s) s) e) (operand a r o) in
+                  let y : Under s (¬ v a i) = under-map s (subst (λ z. v k i ↔ Means R w v z i) n (says k (h .0) (h .1) i)) x in
+                  subst⁻¹ (λ z. u z i) (normal .not-stands k s a r n) (ih a (b .1) (turned s) ra i (turned-back s (v a i) (not-not a (omega (arith, b .1, h .1)) i) y))
               by false e =
                   let h = reached-row r in
                   let l : Listed f sign k s = (r, e) in

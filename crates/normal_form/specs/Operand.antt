@@ -1,15 +1,15 @@
 -- Rows by their operands. Assumes nothing.
 use Prim.Native.Nat.{ℕ, _-_, _≤_, _<_}
 use mathlib.Core.Path.{_≡_}
-use mathlib.Core.Bool.{Bool, true, false}
+use mathlib.Core.Bool.{Bool, false, not}
 use mathlib.Core.List.{List}
 use mathlib.Core.Logic.{_⊎_}
 use lib.ListN.{getD}
-use Rattle.tables.specs.declared.row.UnaryKind.the-variants.{Not, Next, Always, Ever}
 use Rattle.tables.specs.declared.row.Row.{Row}
 use Rattle.tables.specs.declared.row.Row.the-variants.{Constant, Signal, Unary, Binary}
 use Rattle.tables.specs.declared.row.RowPlace.{RowPlace}
 use Rattle.tables.specs.declared.row.Formula.{Formula}
+use Rattle.meaning.specs.Rows.{positive}
 use Rattle.rule_file.specs.Rule.{inPlace, unused}
 
 -- the row in place i, whose number is i + 1
@@ -20,13 +20,11 @@ rowIn ps i = getD ps i (inPlace unused) .row
 abbrev pub rowOf : Formula → ℕ → Row
 rowOf f k = rowIn (f .places) (k - 1)
 
+-- the row is a `not`
 abbrev pub isNot : Row → Bool
 isNot (Constant c) = false
 isNot (Signal c s) = false
-isNot (Unary Not a) = true
-isNot (Unary Next a) = false
-isNot (Unary Always a) = false
-isNot (Unary Ever a) = false
+isNot (Unary c a) = not (positive c)
 isNot (Binary c a b) = false
 
 -- x is an operand of the row

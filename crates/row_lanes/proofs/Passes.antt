@@ -11,7 +11,8 @@ use Rattle.tables.specs.declared.trace.Lane.{Lane}
 use Rattle.tables.specs.declared.trace.Ending.{Ending}
 use Rattle.tables.specs.declared.trace.Ending.the-variants.{Open, Loop}
 use Rattle.tables.proofs.Bits.{bit-of-lane, lane-ext}
-use Rattle.meaning.proofs.Streams.{approximant, approximant-local}
+use Rattle.meaning.specs.Approximant.{approximant}
+use Rattle.meaning.proofs.Streams.{approximant-local}
 use Rattle.lanes.specs.Word.{Ends}
 use Rattle.take_file.specs.Valid.{Below as LoopBelow}
 use Rattle.row_lanes.specs.Span.{Shows}

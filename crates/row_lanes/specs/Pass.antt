@@ -5,9 +5,9 @@ use lib.Dec.{ltb}
 use Rattle.tables.specs.Choice.{pick}
 use Rattle.tables.specs.declared.row.Row.{Row}
 use Rattle.tables.specs.declared.trace.Ending.{Ending}
-use Rattle.meaning.proofs.Streams.{approximant}
-use Rattle.meaning.proofs.Pattern.{Pattern, Pattern.now, Pattern.next, Pattern.connective, Pattern.temporal, left, right, patternOf}
-use Rattle.meaning.proofs.PatternBits.{connectiveBit, keepBits, goalBits, operandBits}
+use Rattle.meaning.specs.Pattern.{Pattern, Pattern.now, Pattern.next, Pattern.connective, Pattern.temporal}
+use Rattle.meaning.specs.Pattern.{left, right, patternOf, connectiveBit, keepBits, goalBits, operandBits}
+use Rattle.meaning.specs.Approximant.{approximant}
 use Rattle.row_lanes.specs.Span.{bitBehind, untilBehind}
 
 module _ (n : ℕ) (ending : Ending) where
@@ -17,7 +17,7 @@ module _ (n : ℕ) (ending : Ending) where
   abbrev pub nextPass : (ℕ → Bool) → ℕ → Bool
   nextPass q i = pick (ltb (suc i) n) (q (suc i)) (bitBehind q ending)
 
-  -- by the patterns of meaning/proofs/Pattern.antt; p and q are the operands
+  -- by the patterns of meaning/specs/Pattern.antt; p and q are the operands
   abbrev pub passBit : (ℕ → Bool) → (ℕ → Bool) → Pattern → ℕ → Bool
   passBit p q now i = q i
   passBit p q next i = nextPass q i

@@ -8,7 +8,7 @@ use Rattle.tables.specs.declared.trace.Lane.{Lane}
 use Rattle.tables.specs.declared.trace.Ending.{Ending}
 use Rattle.tables.specs.declared.trace.Ending.the-variants.{Open, Loop}
 use Rattle.take_file.specs.Valid.{Below as LoopBelow}
-use Rattle.meaning.proofs.Streams.{approximant}
+use Rattle.meaning.specs.Approximant.{approximant}
 use Rattle.row_lanes.specs.declared.Span.{Span}
 
 -- the span of a recording of n cycles

@@ -16,7 +16,7 @@ use Rattle.tables.specs.declared.trace.Lane.{Lane}
 use Rattle.tables.proofs.Bits.{word-ext}
 use Rattle.lanes.proofs.Words.{word-odd, word-and, word-or, word-every, word-without}
 use Rattle.lanes.proofs.Masks.{wordBit, word-masked}
-use Rattle.meaning.proofs.Streams.{approximant}
+use Rattle.meaning.specs.Approximant.{approximant}
 use Rattle.row_monitor.specs.declared.row.Course.{Course}
 use Rattle.row_monitor.specs.declared.word.Moves.{Moves}
 use Rattle.row_monitor.specs.Word.{some, whenActive, whenPending, MovesOf, dropped, held, failing, staying, WholeWord}

@@ -9,132 +9,20 @@ use lib.Dec.{ltb, leb}
 use borrow.Author.Tests.{not-true, leb-true, leb-false}
 use Rattle.tables.specs.Choice.{pick}
 use Rattle.tables.specs.Bit.{bitAt}
-use Rattle.tables.specs.declared.row.ConstantKind.the-variants.{True, False}
-use Rattle.tables.specs.declared.row.SignalKind.the-variants.{Sig, Nsig}
-use Rattle.tables.specs.declared.row.UnaryKind.the-variants.{Not, Next, Always, Ever}
-use Rattle.tables.specs.declared.row.BinaryKind.the-variants.{And, Or, Weak, Until, Release, Srelease}
 use Rattle.tables.specs.declared.row.Row.{Row}
-use Rattle.tables.specs.declared.row.Row.the-variants.{Constant, Signal, Unary, Binary}
 use Rattle.meaning.specs.Trace.{position}
+use Rattle.meaning.specs.Approximant.{approximant}
 use Rattle.meaning.proofs.Readings.{lt-or-le}
 use Rattle.meaning.proofs.Periodic.{position-next}
-use Rattle.meaning.proofs.Streams.{approximant}
 use Rattle.monitors.specs.declared.Output.{Output}
-use Rattle.monitors.specs.declared.State.{State}
 use Rattle.monitors.specs.Monitor.{rowMonitor}
 use Rattle.row_monitor.specs.declared.row.Course.{Course}
 use Rattle.row_monitor.specs.declared.row.Reads.{Reads}
 use Rattle.row_monitor.specs.declared.row.RowReport.{RowReport}
 use Rattle.row_monitor.specs.RowReport.{rowPending, AcceptedTo, courseOutput, coursePending}
 use Rattle.row_monitor.specs.Word.{some, whenActive, whenPending, dropped, held, failing, staying, pendingFrom, wordRun, WholeWord}
+use Rattle.row_monitor.proofs.Causes.{by-both, most, accepts, failed-by, pending-by}
 use Rattle.row_monitor.proofs.ReportLoop.{ReportTo, or-cases, or-none, and-both}
-
--- ---- a monitor fails, or is pending, by its activator or by its pending
-
-by-both : (z p x : Bool) → ((z || p) && x) ≡ ((z && x) || (p && x))
-by-both true true true = refl
-by-both true true false = refl
-by-both true false true = refl
-by-both true false false = refl
-by-both false p x = refl
-
-by-active : (z p x : Bool) → (z && x) ≡ ((z && x) || (p && false))
-by-active true true true = refl
-by-active true true false = refl
-by-active true false true = refl
-by-active true false false = refl
-by-active false true x = refl
-by-active false false x = refl
-
-by-pending : (z p x : Bool) → (p && x) ≡ ((z && false) || (p && x))
-by-pending true p x = refl
-by-pending false p x = refl
-
-by-none : (z p : Bool) → false ≡ ((z && false) || (p && false))
-by-none true true = refl
-by-none true false = refl
-by-none false true = refl
-by-none false false = refl
-
-by-alone : (z p : Bool) → z ≡ ((z && true) || (p && false))
-by-alone true p = refl
-by-alone false true = refl
-by-alone false false = refl
-
-by-either : (z p : Bool) → (z || p) ≡ ((z && true) || (p && true))
-by-either true p = refl
-by-either false true = refl
-by-either false false = refl
-
-by-two : (z p x y : Bool) → (((z || p) && x) && y) ≡ ((z && (x && y)) || (p && (x && y)))
-by-two true p true y = by-both true p y
-by-two true true false y = refl
-by-two true false false y = refl
-by-two false true true y = refl
-by-two false true false y = refl
-by-two false false x y = refl
-
-abbrev most : State
-most = record { active = true; pending = true }
-
-module _ (a b z p : Bool) where
-  abbrev FailedBy : Row → Type 0
-  FailedBy r = rowMonitor r a b (record { active = z; pending = p }) .failed ≡ ((z && whenActive r a b .failed) || (p && whenPending r a b .failed))
-
-  failed-by : (r : Row) → FailedBy r
-  failed-by (Constant True) = by-none z p
-  failed-by (Constant False) = by-alone z p
-  failed-by (Signal Sig n) = by-active z p (not a)
-  failed-by (Signal Nsig n) = by-active z p a
-  failed-by (Unary Not n) = by-none z p
-  failed-by (Unary Next n) = by-pending z p (not a)
-  failed-by (Unary Always n) = by-both z p (not a)
-  failed-by (Unary Ever n) = by-none z p
-  failed-by (Binary And m n) = by-active z p (not (a && b))
-  failed-by (Binary Or m n) = by-active z p (not (a || b))
-  failed-by (Binary Weak m n) = by-two z p (not b) (not a)
-  failed-by (Binary Until m n) = by-two z p (not b) (not a)
-  failed-by (Binary Release m n) = by-both z p (not b)
-  failed-by (Binary Srelease m n) = by-both z p (not b)
-
-  abbrev PendingBy : Row → Type 0
-  PendingBy r = rowMonitor r a b (record { active = z; pending = p }) .pending ≡ ((z && whenActive r a b .pending) || (p && whenPending r a b .pending))
-
-  pending-by : (r : Row) → PendingBy r
-  pending-by (Constant True) = by-none z p
-  pending-by (Constant False) = by-none z p
-  pending-by (Signal Sig n) = by-none z p
-  pending-by (Signal Nsig n) = by-none z p
-  pending-by (Unary Not n) = by-none z p
-  pending-by (Unary Next n) = by-alone z p
-  pending-by (Unary Always n) = by-either z p
-  pending-by (Unary Ever n) = by-both z p (not a)
-  pending-by (Binary And m n) = by-none z p
-  pending-by (Binary Or m n) = by-none z p
-  pending-by (Binary Weak m n) = by-both z p (not b)
-  pending-by (Binary Until m n) = by-both z p (not b)
-  pending-by (Binary Release m n) = by-both z p (not a)
-  pending-by (Binary Srelease m n) = by-both z p (not a)
-
--- where a row's monitor accepts while it waits, it always does; where it is not pending, it does
-accepts : (r : Row) (a b : Bool) (s : State) → (rowMonitor r false false most .accept ≡ true) ⊎ (rowMonitor r a b s .pending ≡ false) → rowMonitor r a b s .accept ≡ true
-accepts (Constant True) a b s h = refl
-accepts (Constant False) a b s h = refl
-accepts (Signal Sig n) a b s h = refl
-accepts (Signal Nsig n) a b s h = refl
-accepts (Unary Not n) a b s h = refl
-accepts (Unary Next n) a b s h = refl
-accepts (Unary Always n) a b s h = refl
-accepts (Unary Ever n) a b s (inl e) = absurd (true≢false (sym e))
-accepts (Unary Ever n) a b s (inr e) = ap not e
-accepts (Binary And m n) a b s h = refl
-accepts (Binary Or m n) a b s h = refl
-accepts (Binary Weak m n) a b s h = refl
-accepts (Binary Until m n) a b s (inl e) = absurd (true≢false (sym e))
-accepts (Binary Until m n) a b s (inr e) = ap not e
-accepts (Binary Release m n) a b s h = refl
-accepts (Binary Srelease m n) a b s (inl e) = absurd (true≢false (sym e))
-accepts (Binary Srelease m n) a b s (inr e) = ap not e
 
 -- ---- one cycle of a word
 
@@ -187,11 +75,11 @@ module _ (row : Row) (reads : Reads) (course : Course) where
   at = position (course .cycles) (course .start)
 
   failed-here : (i m : ℕ) → m ≡ at i → out i .failed ≡ ((active m && whenActive row (first m) (second m) .failed) || (pending i && whenPending row (first m) (second m) .failed))
-  failed-here i m e = rw e (failed-by (first (at i)) (second (at i)) (active (at i)) (pending i) row)
+  failed-here i m e = rw e (failed-by (active (at i)) (pending i) (first (at i)) (second (at i)) row)
 
   pending-here : (i m : ℕ) → m ≡ at i → pending (suc i) ≡ ((active m && whenActive row (first m) (second m) .pending) || (pending i && whenPending row (first m) (second m) .pending))
   unfolding rowPending
-  pending-here i m e = rw e (pending-by (first (at i)) (second (at i)) (active (at i)) (pending i) row)
+  pending-here i m e = rw e (pending-by (active (at i)) (pending i) (first (at i)) (second (at i)) row)
 
   next-at : (i m : ℕ) → m ≡ at i → suc m < course .cycles → suc m ≡ at (suc i)
   next-at i m e h = ap suc e ∙ sym (position-next (course .cycles) (course .start) i (omega (arith, e)))

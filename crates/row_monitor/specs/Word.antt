@@ -5,7 +5,7 @@ use mathlib.Core.Bool.{Bool, true, false, not, _&&_, _||_}
 use mathlib.Core.Logic.{_⊎_}
 use Rattle.tables.specs.Bit.{bitAt, wordFrom}
 use Rattle.tables.specs.declared.row.Row.{Row}
-use Rattle.meaning.proofs.Streams.{approximant}
+use Rattle.meaning.specs.Approximant.{approximant}
 use Rattle.monitors.specs.declared.Output.{Output}
 use Rattle.monitors.specs.Monitor.{rowMonitor}
 use Rattle.row_monitor.specs.declared.row.Course.{Course}

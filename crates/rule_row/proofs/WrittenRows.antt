@@ -9,7 +9,7 @@ use lib.ListN.{take, drop}
 use borrow.Author.Tests.{eqb-true}
 use Rattle.tables.specs.Choice.{pick}
 use Rattle.tables.specs.Bytes.{sameBytes}
-use Rattle.tables.specs.Kind.{kinds, kindAt, noKind, wordOf, placeOf, withNumbers, numbersIn, firstNumber, secondNumber}
+use Rattle.tables.specs.Kind.{kinds, kindCount, kindAt, noKind, wordOf, placeOf, withNumbers, numbersIn, firstNumber, secondNumber}
 use Rattle.tables.specs.declared.kind.Kind.{Kind}
 use Rattle.tables.specs.declared.refusal.Reason.the-variants.{BadReference}
 use Rattle.tables.specs.declared.row.Row.{Row}
@@ -44,17 +44,17 @@ found-at k (At i) t = ap At (eqb-true i k t)
 found-at k Nothing t = clash (cc)
 
 -- each word is that of its own kind and of no earlier one
-word-named : (k : ℕ) → k < 14 → kindNamed (wordOf (kindAt k)) ≡ At k
+word-named : (k : ℕ) → k < kindCount → kindNamed (wordOf (kindAt k)) ≡ At k
 unfolding kindNamed kindAt kinds firstWhere further sameBytes
-word-named k h = found-at k _ (below (λ k. isAt k (kindNamed (wordOf (kindAt k)))) 14 refl k h)
+word-named k h = found-at k _ (below (λ k. isAt k (kindNamed (wordOf (kindAt k)))) kindCount refl k h)
 
-word-no-space : (k : ℕ) → k < 14 → Free 32 (wordOf (kindAt k))
+word-no-space : (k : ℕ) → k < kindCount → Free 32 (wordOf (kindAt k))
 unfolding kindAt kinds
-word-no-space k h = free 32 (wordOf (kindAt k)) (below (λ k. lacks 32 (wordOf (kindAt k))) 14 refl k h)
+word-no-space k h = free 32 (wordOf (kindAt k)) (below (λ k. lacks 32 (wordOf (kindAt k))) kindCount refl k h)
 
-word-no-feed : (k : ℕ) → k < 14 → Free 10 (wordOf (kindAt k))
+word-no-feed : (k : ℕ) → k < kindCount → Free 10 (wordOf (kindAt k))
 unfolding kindAt kinds
-word-no-feed k h = free 10 (wordOf (kindAt k)) (below (λ k. lacks 10 (wordOf (kindAt k))) 14 refl k h)
+word-no-feed k h = free 10 (wordOf (kindAt k)) (below (λ k. lacks 10 (wordOf (kindAt k))) kindCount refl k h)
 
 -- ---- what is written is read
 
@@ -152,7 +152,7 @@ form-says w n a b v e =
     whole : (k : ℕ) → At k ≡ firstWhere (λ (k : Kind). sameBytes w (wordOf k)) kinds → numbersIn (kindAt k .row) ≡ n → v ≡ writtenRow (withNumbers (kindAt k .row) a b)
     whole k q o =
         let x = hit (λ (k : Kind). sameBytes w (wordOf k)) kinds noKind k q in
-        let h : k < 14 = unfold kinds in x .below in
+        let h : k < kindCount = unfold kinds in x .below in
         let s : w ≡ wordOf (kindAt k) = unfold kindAt in same-eq w (wordOf (kindAt k)) (x .passes) in
         let p : placeOf (withNumbers (kindAt k .row) a b) ≡ k = numbers-place (kindAt k .row) a b ∙ place-of-kind k h in
         e ∙ rw (p, texts-of (kindAt k .row) a b, o, ← s)

@@ -17,7 +17,7 @@ fn kind_named(word: &[u8]) -> Found
 {
     let kinds = kind::table();
     let mut place = 0;
-    while place < 14 {
+    while place < kind::KIND_COUNT {
         let kind = kinds[place];
         let bytes = kind.word;
         let length = kind.length;

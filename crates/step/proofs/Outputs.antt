@@ -8,7 +8,8 @@ use native.Mathlib.Omega.{arith}
 use lib.ListN.{length, set, drop}
 use Rattle.tables.specs.declared.row.NormalForm.{NormalForm}
 use Rattle.meaning.specs.Satisfaction.{tableOf}
-use Rattle.meaning.proofs.Rows.{Each, each-map, EachSignal, each-signal-map}
+use Rattle.meaning.specs.Rows.{Each, EachSignal}
+use Rattle.meaning.proofs.Rows.{each-map, each-signal-map}
 use Rattle.normal_form.specs.Form.{InNormalForm}
 use Rattle.normal_form.proofs.FormTables.{form-operands, form-signals}
 use Rattle.monitors.specs.declared.Output.{Output}

@@ -14,7 +14,7 @@ ghost use mathlib.Core.Path.{_≡_};
 ghost use mathlib.Core.List.{_++_};
 ghost use Prim.Native.Nat.{_*_, _≤_};
 ghost use lib.ListN.{length, drop};
-ghost use Rattle.meaning.proofs.Rows.{Each, EachSignal};
+ghost use Rattle.meaning.specs.Rows.{Each, EachSignal};
 ghost use Rattle.monitors.specs.Monitor.{monitor};
 ghost use Rattle.rule_file.specs.Valid.{InRange};
 ghost use Rattle.normal_form.specs.Form.{InNormalForm};

@@ -7,7 +7,7 @@ use native.Mathlib.Decide.{decLt}
 use lib.ListN.{length}
 use lib.Dec.{eqb, leb}
 use borrow.Author.Tests.{eqb-true, leb-true}
-use Rattle.tables.specs.Kind.{kinds, kindAt, wordOf, placeOf, withNumbers, numbersIn, firstNumber, secondNumber, constantPlace, signalPlace, unaryPlace, binaryPlace}
+use Rattle.tables.specs.Kind.{kinds, kindCount, kindAt, wordOf, placeOf, withNumbers, numbersIn, firstNumber, secondNumber, constantPlace, signalPlace, unaryPlace, binaryPlace}
 use Rattle.tables.specs.declared.row.ConstantKind.{ConstantKind}
 use Rattle.tables.specs.declared.row.ConstantKind.the-variants.{True, False}
 use Rattle.tables.specs.declared.row.SignalKind.{SignalKind}
@@ -36,50 +36,55 @@ below f (suc n) t k h = let w = both (f n) (allBelow f n) t in by (decLt k n) (w
     by (yes l) e r = r l
     by (no g) e r = let q : n ≡ k = omega arith in rw q at e
 
+-- the table has a place for each kind
+pub kind-count : length kinds ≡ kindCount
+unfolding kinds
+kind-count = refl
+
 -- THE TABLE OF PARTNERS IS ITS OWN INVERSE
-pub partner-twice : (k : ℕ) → k < 14 → kindAt (kindAt k .partner) .partner ≡ k
+pub partner-twice : (k : ℕ) → k < kindCount → kindAt (kindAt k .partner) .partner ≡ k
 unfolding kindAt kinds
-partner-twice k h = eqb-true _ _ (below (λ k. eqb (kindAt (kindAt k .partner) .partner) k) 14 refl k h)
+partner-twice k h = eqb-true _ _ (below (λ k. eqb (kindAt (kindAt k .partner) .partner) k) kindCount refl k h)
 
 -- and stays within the table
-pub partner-below : (k : ℕ) → k < 14 → kindAt k .partner < 14
+pub partner-below : (k : ℕ) → k < kindCount → kindAt k .partner < kindCount
 unfolding kindAt kinds
-partner-below k h = leb-true _ _ (below (λ k. leb (suc (kindAt k .partner)) 14) 14 refl k h)
+partner-below k h = leb-true _ _ (below (λ k. leb (suc (kindAt k .partner)) kindCount) kindCount refl k h)
 
 -- a word lies within its bytes
-pub word-fits : (k : ℕ) → k < 14 → kindAt k .length ≤ length (kindAt k .word)
+pub word-fits : (k : ℕ) → k < kindCount → kindAt k .length ≤ length (kindAt k .word)
 unfolding kindAt kinds
-word-fits k h = leb-true _ _ (below (λ k. leb (kindAt k .length) (length (kindAt k .word))) 14 refl k h)
+word-fits k h = leb-true _ _ (below (λ k. leb (kindAt k .length) (length (kindAt k .word))) kindCount refl k h)
 
 -- and has at most eight letters
-pub word-short : (k : ℕ) → k < 14 → length (wordOf (kindAt k)) ≤ 8
+pub word-short : (k : ℕ) → k < kindCount → length (wordOf (kindAt k)) ≤ 8
 unfolding kindAt kinds
-word-short k h = leb-true _ _ (below (λ k. leb (length (wordOf (kindAt k))) 8) 14 refl k h)
+word-short k h = leb-true _ _ (below (λ k. leb (length (wordOf (kindAt k))) 8) kindCount refl k h)
 
 -- a place of the table is that of its own row
-pub place-of-kind : (k : ℕ) → k < 14 → placeOf (kindAt k .row) ≡ k
+pub place-of-kind : (k : ℕ) → k < kindCount → placeOf (kindAt k .row) ≡ k
 unfolding kindAt kinds
-place-of-kind k h = eqb-true _ _ (below (λ k. eqb (placeOf (kindAt k .row)) k) 14 refl k h)
+place-of-kind k h = eqb-true _ _ (below (λ k. eqb (placeOf (kindAt k .row)) k) kindCount refl k h)
 
 -- and the row at a row's place is of its kind
-constant-row : (k : ConstantKind) → (constantPlace k < 14) × (kindAt (constantPlace k) .row ≡ Constant k)
+constant-row : (k : ConstantKind) → (constantPlace k < kindCount) × (kindAt (constantPlace k) .row ≡ Constant k)
 unfolding kindAt kinds
 constant-row True = (omega arith, refl)
 constant-row False = (omega arith, refl)
 
-signal-row : (k : SignalKind) → (signalPlace k < 14) × (kindAt (signalPlace k) .row ≡ Signal k 0)
+signal-row : (k : SignalKind) → (signalPlace k < kindCount) × (kindAt (signalPlace k) .row ≡ Signal k 0)
 unfolding kindAt kinds
 signal-row Sig = (omega arith, refl)
 signal-row Nsig = (omega arith, refl)
 
-unary-row : (k : UnaryKind) → (unaryPlace k < 14) × (kindAt (unaryPlace k) .row ≡ Unary k 0)
+unary-row : (k : UnaryKind) → (unaryPlace k < kindCount) × (kindAt (unaryPlace k) .row ≡ Unary k 0)
 unfolding kindAt kinds
 unary-row Not = (omega arith, refl)
 unary-row Next = (omega arith, refl)
 unary-row Always = (omega arith, refl)
 unary-row Ever = (omega arith, refl)
 
-binary-row : (k : BinaryKind) → (binaryPlace k < 14) × (kindAt (binaryPlace k) .row ≡ Binary k 0 0)
+binary-row : (k : BinaryKind) → (binaryPlace k < kindCount) × (kindAt (binaryPlace k) .row ≡ Binary k 0 0)
 unfolding kindAt kinds
 binary-row And = (omega arith, refl)
 binary-row Or = (omega arith, refl)
@@ -88,7 +93,7 @@ binary-row Until = (omega arith, refl)
 binary-row Release = (omega arith, refl)
 binary-row Srelease = (omega arith, refl)
 
-pub kind-of-row : (r : Row) → (placeOf r < 14) × (kindAt (placeOf r) .row ≡ withNumbers r 0 0)
+pub kind-of-row : (r : Row) → (placeOf r < kindCount) × (kindAt (placeOf r) .row ≡ withNumbers r 0 0)
 kind-of-row (Constant k) = constant-row k
 kind-of-row (Signal k s) = signal-row k
 kind-of-row (Unary k a) = unary-row k

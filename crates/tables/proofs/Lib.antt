@@ -1,6 +1,7 @@
 pub mod Places
 pub mod Bits
 pub mod KindTable
+pub mod Duals
 pub mod Marks
 pub mod UsedRows
 pub mod Outcomes

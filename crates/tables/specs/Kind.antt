@@ -39,6 +39,10 @@ kinds =
     kind "release" (Binary Release 0 0) 11 ∷  -- 12
     kind "srelease" (Binary Srelease 0 0) 10 ∷ []
 
+-- how many kinds there are (law `kind-count`)
+abbrev pub kindCount : ℕ
+kindCount = 14
+
 -- what a place behind the table would hold
 abbrev pub noKind : Kind
 noKind = record { word = []; length = 0; row = Constant True; partner = 0 }

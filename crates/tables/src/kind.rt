@@ -1,7 +1,8 @@
 // The kinds of rows, once, as a table (01: "The words and their partners stand once as a table").
 ghost use mathlib.Core.Path.{_≡_};
 ghost use Prim.Native.Nat.{_<_};
-ghost use Rattle.tables.specs.Kind.{binaryPlace, constantPlace, dualOf, firstNumber, kindAt, kinds, numbersIn, placeOf, secondNumber, signalPlace, unaryPlace, withNumbers};
+ghost use Rattle.tables.specs.Kind.{dualOf, firstNumber, kindAt, kindCount, kinds, numbersIn, secondNumber, withNumbers};
+ghost use Rattle.tables.specs.Kind.{binaryPlace, constantPlace, placeOf, signalPlace, unaryPlace};
 use crate::row::BinaryKind;
 use crate::row::ConstantKind;
 use crate::row::Row;
@@ -17,9 +18,12 @@ pub struct Kind {
     pub partner: usize,
 }
 
+// How many kinds there are.
+pub const KIND_COUNT: usize = 14;
+
 // `next` is its own partner. `not` has none in 01, since no normal form has such a row; its own place stands here, so that
 // the table is its own inverse throughout.
-const KINDS: [Kind; 14] = [
+const KINDS: [Kind; KIND_COUNT] = [
     Kind {
         word: *b"true\0\0\0\0",
         length: 4,
@@ -107,7 +111,7 @@ const KINDS: [Kind; 14] = [
 ];
 
 // The table, for who looks at many of its places: the compiler stores it anew each time that it is indexed by a variable.
-pub fn table() -> [Kind; 14]
+pub fn table() -> [Kind; KIND_COUNT]
     ensures { λ r. ⌜ r ≡ kinds ⌝ }
 {
     KINDS
@@ -115,8 +119,8 @@ pub fn table() -> [Kind; 14]
 
 // The kind at a place of the table.
 pub fn kind_at(place: usize) -> Kind
-    requires { ⌜ place < 14 ⌝ }
-    ensures { λ r. ⌜ r ≡ kindAt place ⌝ }
+    requires { ⌜ place < kindCount ⌝ }
+    ensures kind { λ r. ⌜ r ≡ kindAt place ⌝ }
 {
     KINDS[place]
 }
@@ -170,7 +174,7 @@ pub fn second_number(row: Row) -> u8
 
 // The place of a row's kind in the table, shape by shape.
 fn constant_place(kind: ConstantKind) -> usize
-    ensures { λ r. ⌜ (r ≡ constantPlace kind) × (r < 14) ⌝ }
+    ensures place { λ r. ⌜ (r ≡ constantPlace kind) × (r < kindCount) ⌝ }
 {
     match kind {
         ConstantKind::True => 0,
@@ -179,7 +183,7 @@ fn constant_place(kind: ConstantKind) -> usize
 }
 
 fn signal_place(kind: SignalKind) -> usize
-    ensures { λ r. ⌜ (r ≡ signalPlace kind) × (r < 14) ⌝ }
+    ensures place { λ r. ⌜ (r ≡ signalPlace kind) × (r < kindCount) ⌝ }
 {
     match kind {
         SignalKind::Sig => 2,
@@ -188,7 +192,7 @@ fn signal_place(kind: SignalKind) -> usize
 }
 
 fn unary_place(kind: UnaryKind) -> usize
-    ensures { λ r. ⌜ (r ≡ unaryPlace kind) × (r < 14) ⌝ }
+    ensures place { λ r. ⌜ (r ≡ unaryPlace kind) × (r < kindCount) ⌝ }
 {
     match kind {
         UnaryKind::Not => 4,
@@ -199,7 +203,7 @@ fn unary_place(kind: UnaryKind) -> usize
 }
 
 fn binary_place(kind: BinaryKind) -> usize
-    ensures { λ r. ⌜ (r ≡ binaryPlace kind) × (r < 14) ⌝ }
+    ensures place { λ r. ⌜ (r ≡ binaryPlace kind) × (r < kindCount) ⌝ }
 {
     match kind {
         BinaryKind::And => 5,
@@ -212,7 +216,7 @@ fn binary_place(kind: BinaryKind) -> usize
 }
 
 pub fn place_of(row: Row) -> usize
-    ensures { λ r. ⌜ (r ≡ placeOf row) × (r < 14) ⌝ }
+    ensures place { λ r. ⌜ (r ≡ placeOf row) × (r < kindCount) ⌝ }
 {
     match row {
         Row::Constant(kind) => constant_place(kind),

@@ -19,9 +19,10 @@ use Rattle.take_file.specs.Valid.{Below as LoopBelow}
 use Rattle.meaning.specs.Reading.{classical}
 use Rattle.meaning.specs.Trace.{InfiniteTrace, signalAt}
 use Rattle.meaning.specs.Satisfaction.{Table, tableOf, RowTrue}
+use Rattle.meaning.specs.Rows.{Each, Ordered}
 use Rattle.meaning.proofs.Truth.{everyCycle}
 use Rattle.meaning.proofs.Readings.{On}
-use Rattle.meaning.proofs.Rows.{Each, each-map, Ordered}
+use Rattle.meaning.proofs.Rows.{each-map}
 use Rattle.meaning.proofs.Periodic.{position-first}
 use Rattle.meaning.proofs.Evaluation.{bitsWithin, bitsOf, bits-computed}
 use Rattle.meaning.proofs.PatternBits.{rowBit}

@@ -8,18 +8,21 @@ use native.Mathlib.Omega.{arith}
 use lib.Dec.{ltb}
 use borrow.Author.Tests.{lt-ltb, le-ltb}
 use Rattle.tables.specs.Choice.{pick}
+use Rattle.tables.specs.declared.row.UnaryKind.{UnaryKind}
 use Rattle.tables.specs.declared.row.UnaryKind.the-variants.{Not, Next, Always, Ever}
-use Rattle.tables.specs.declared.row.BinaryKind.the-variants.{And, Or, Weak, Until, Release, Srelease}
 use Rattle.tables.specs.declared.row.Row.{Row}
 use Rattle.tables.specs.declared.row.Row.the-variants.{Constant, Signal, Unary, Binary}
 use Rattle.tables.specs.declared.trace.Ending.the-variants.{Open, Loop}
 use Rattle.meaning.specs.Trace.{InfiniteTrace, position}
-use Rattle.meaning.proofs.Readings.{on-and-off}
-use Rattle.meaning.proofs.Rows.{Positive}
+use Rattle.meaning.specs.Rows.{positive, Positive}
+use Rattle.meaning.specs.Pattern.{Pattern, Pattern.now, Pattern.next, Pattern.connective, Pattern.temporal}
+use Rattle.meaning.specs.Pattern.{left, right, patternOf, signalSign, unaryLeft, unaryPattern, binaryPattern}
+use Rattle.meaning.specs.Pattern.{keepBit, goalBit, connectiveBit, keepBits, goalBits, signedBit, operandBits}
+use Rattle.meaning.specs.Approximant.{expand, approximant}
+use Rattle.meaning.proofs.Readings.{On, on-and-off}
 use Rattle.meaning.proofs.Periodic.{Periodic, position-first, position-periodic}
-use Rattle.meaning.proofs.Streams.{expand, approximant, approximant-local, to-end}
-use Rattle.meaning.proofs.Pattern.{Pattern, Pattern.now, Pattern.next, Pattern.connective, Pattern.temporal, left, right, patternOf, signalSign}
-use Rattle.meaning.proofs.PatternBits.{connectiveBit, keepBits, goalBits, patternBit, signedBit, rowBit, operandBits}
+use Rattle.meaning.proofs.Streams.{approximant-local, to-end}
+use Rattle.meaning.proofs.PatternBits.{patternBit, rowBit}
 use Rattle.meaning.proofs.Lasso.{twoRounds, two-passes, lasso}
 use Rattle.meaning.proofs.Prefix.{prefix, toEnd}
 use Rattle.lanes.specs.Word.{Ends}
@@ -68,33 +71,42 @@ module _ (n l : ℕ) (l<n : l < n) where
 -- ---- on a prefix
 
 module _ (n : ℕ) (w : InfiniteTrace) (bits : ℕ → ℕ → Bool) (ends : (a : ℕ) → Ends n (bits a)) where
-  off : (k g v : Bool) → k ≡ false → g ≡ false → expand k g v ≡ false
-  off k g v p q = rw (p, q)
+  end : (a : ℕ) → bits a n ≡ false
+  end a = ends a n (omega arith)
 
   until-prefix : (k g : ℕ → Bool) (v : Bool) → expand (k n) (g n) v ≡ false → (c : ℕ) → c < n → approximant k g v (toEnd n w c) c ≡ untilPass n Open k g v c
   until-prefix k g v o c h = to-end k g v n (n - c) c (omega arith) o
 
-  off-both : (x y v : Bool) → y ≡ false → expand y (x && y) v ≡ false
-  off-both true y v e = rw e
-  off-both false y v e = rw e
+  next-prefix : (q : ℕ → Bool) → Ends n q → (c : ℕ) → q (suc c) ≡ pick (ltb (suc c) n) (q (suc c)) false
+  next-prefix q e c = by (decLt (suc c) n)
+    where
+      by : Dec (suc c < n) → q (suc c) ≡ pick (ltb (suc c) n) (q (suc c)) false
+      by (yes l) = sym (ap (λ b. pick b (q (suc c)) false) (lt-ltb (suc c) n l))
+      by (no l) = e (suc c) (omega arith) ∙ sym (ap (λ b. pick b (q (suc c)) false) (le-ltb (suc c) n (omega arith)))
 
-  end : (a : ℕ) → bits a n ≡ false
-  end a = ends a n (omega arith)
+  -- neither keep nor goal holds at n where no operand does
+  off : (f v x y : Bool) → x ≡ false → y ≡ false → expand (keepBit f x y) (goalBit f x y) v ≡ false
+  off true v x y p q = rw (p, q)
+  off false v x y p q = rw (p, q)
+
+  -- a pattern of two operands that are off behind the end
+  pattern-prefix : (p q : ℕ → Bool) → Ends n p → Ends n q → (x : Pattern) (c : ℕ) → c < n → patternBit (toEnd n w) p q x c ≡ passBit n Open p q x c
+  pattern-prefix p q d e now c h = refl
+  pattern-prefix p q d e next c h = next-prefix q e c
+  pattern-prefix p q d e (connective f) c h = refl
+  pattern-prefix p q d e (temporal f v) c h = until-prefix (keepBits f p q) (goalBits f p q) v (off f v (p n) (q n) (d n (omega arith)) (e n (omega arith))) c h
+
+  unary-prefix :
+      (a : ℕ) (k : UnaryKind) → On (positive k) → (c : ℕ) → c < n
+      → patternBit (toEnd n w) (λ j. unaryLeft k) (λ j. signedBit (positive k) (bits a j)) (unaryPattern k) c
+      ≡ passBit n Open (λ j. unaryLeft k) (λ j. signedBit (positive k) (bits a j)) (unaryPattern k) c
+  unary-prefix a Not o c h = on-and-off o refl
+  unary-prefix a Next o c h = next-prefix (bits a) (ends a) c
+  unary-prefix a Always o c h = until-prefix (bits a) (λ j. false) true (off false true false _ refl (end a)) c h
+  unary-prefix a Ever o c h = until-prefix (λ j. true) (bits a) false (ap (λ b. expand true b false) (end a)) c h
 
   pub row-prefix : (r : Row) → Positive r → (c : ℕ) → c < n → rowBit (prefix n w) (toEnd n w) bits r c ≡ rowPass n Open w bits r c
-  row-prefix (Constant k) p c h = refl
-  row-prefix (Signal k s) p c h = ap (λ b. signedBit (signalSign k) (b && w c s)) (lt-ltb c n h)
-  row-prefix (Unary Not a) p c h = on-and-off p refl
-  row-prefix (Unary Next a) p c h = by (decLt (suc c) n)
-    where
-      by : Dec (suc c < n) → bits a (suc c) ≡ pick (ltb (suc c) n) (bits a (suc c)) false
-      by (yes l) = sym (ap (λ b. pick b (bits a (suc c)) false) (lt-ltb (suc c) n l))
-      by (no l) = ends a (suc c) (omega arith) ∙ sym (ap (λ b. pick b (bits a (suc c)) false) (le-ltb (suc c) n (omega arith)))
-  row-prefix (Unary Always a) p c h = until-prefix (bits a) (λ j. false) true (off _ _ _ (end a) refl) c h
-  row-prefix (Unary Ever a) p c h = until-prefix (λ j. true) (bits a) false (ap (λ b. expand true b false) (end a)) c h
-  row-prefix (Binary And a b) p c h = refl
-  row-prefix (Binary Or a b) p c h = refl
-  row-prefix (Binary Weak a b) p c h = until-prefix (bits a) (bits b) true (off _ _ _ (end a) (end b)) c h
-  row-prefix (Binary Until a b) p c h = until-prefix (bits a) (bits b) false (off _ _ _ (end a) (end b)) c h
-  row-prefix (Binary Release a b) p c h = until-prefix (bits b) (λ j. bits a j && bits b j) true (off-both (bits a n) (bits b n) true (end b)) c h
-  row-prefix (Binary Srelease a b) p c h = until-prefix (bits b) (λ j. bits a j && bits b j) false (off-both (bits a n) (bits b n) false (end b)) c h
+  row-prefix (Constant k) o c h = refl
+  row-prefix (Signal k s) o c h = ap (λ b. signedBit (signalSign k) (b && w c s)) (lt-ltb c n h)
+  row-prefix (Unary k a) o c h = unary-prefix a k o c h
+  row-prefix (Binary k a b) o c h = pattern-prefix (bits a) (bits b) (ends a) (ends b) (binaryPattern k) c h

@@ -2,7 +2,7 @@
 ghost use mathlib.Core.List.{[], _∷_};
 ghost use Prim.Native.Nat.{_+_, _≤_, _<_};
 ghost use lib.ListN.{length};
-ghost use Rattle.tables.specs.Kind.{kindAt, wordOf};
+ghost use Rattle.tables.specs.Kind.{kindAt, kindCount, wordOf};
 ghost use Rattle.text.specs.Written.{decimal, writtenLine};
 ghost use Rattle.rule_row.specs.Written.{writtenRow};
 ghost use Rattle.writing.specs.Lent.{Wrote};
@@ -13,9 +13,9 @@ use tables::row::Row;
 
 // The word of the kind at a place of the table.
 fn put_word(buf: &mut [u8], at: usize, place: usize) -> usize
-    requires { ⌜ (place < 14) × (at + 8 ≤ length (now buf)) ⌝ }
-    ensures { λ r. ⌜ Wrote (now (buf .entry)) at (wordOf (kindAt place)) (now (buf .exit)) r ⌝ }
-    ensures { λ r. ⌜ r ≤ at + 8 ⌝ }
+    requires { ⌜ (place < kindCount) × (at + 8 ≤ length (now buf)) ⌝ }
+    ensures word { λ r. ⌜ Wrote (now (buf .entry)) at (wordOf (kindAt place)) (now (buf .exit)) r ⌝ }
+    ensures most { λ r. ⌜ r ≤ at + 8 ⌝ }
 {
     let kind = kind::kind_at(place);
     let bytes = kind.word;

@@ -6,7 +6,7 @@ use lib.ListN.{getD}
 use lib.Seq.{length-take-le}
 use borrow.Author.Needs.{needs}
 use Rattle.tables.specs.Bytes.{sameBytes}
-use Rattle.tables.specs.Kind.{kinds, kindAt, noKind, wordOf}
+use Rattle.tables.specs.Kind.{kinds, kindCount, kindAt, noKind, wordOf}
 use Rattle.tables.specs.declared.kind.Kind.{Kind}
 use Rattle.tables.proofs.KindTable.{word-fits}
 use Rattle.tables.proofs.Choices.{know}
@@ -19,7 +19,7 @@ abbrev Inv-loop : tie.InvT-loop
 Inv-loop word table place₀ place = FirstAt (λ (k : Kind). sameBytes word (wordOf k)) kinds place
 
 abbrev μ-loop : tie.MeasureT-loop
-μ-loop word table place₀ place = 14 - place
+μ-loop word table place₀ place = kindCount - place
 
 loop-holds : tie.Need-loop-holds Inv-loop μ-loop
 unfolding kindNamed kinds

@@ -1,7 +1,7 @@
 use Prim.Native.Nat.{_≤_}
 use mathlib.Core.Path.{subst}
 use lib.ListN.{length}
-use Rattle.meaning.proofs.Rows.{Each, EachSignal}
+use Rattle.meaning.specs.Rows.{Each, EachSignal}
 use borrow.Author.Needs.{needs}
 use Rattle.step.proofs.row_output.Statement.{statement}
 use Rattle.step.proofs.row_output.Tie as tie

@@ -9,7 +9,7 @@ use native.Mathlib.Omega.{arith}
 use native.Mathlib.Numerals.{add-one}
 use Rattle.tables.specs.declared.trace.Activation.{Activation}
 use Rattle.tables.specs.declared.trace.Trace.{Trace}
-use Rattle.meaning.proofs.Rows.{Each, EachSignal}
+use Rattle.meaning.specs.Rows.{Each, EachSignal}
 use Rattle.normal_form.proofs.FormTables.{row-operands, row-signals}
 use Rattle.checking.specs.Survey.{SurveyTo}
 use Rattle.checking.proofs.SurveyLoop.{reads-of, survey-start, survey-next}

@@ -3,7 +3,7 @@ use mathlib.Core.Bool.{false, _&&_, _||_}
 use Prim.Native.Nat.{suc, _-_}
 use lib.Dec.{eqb}
 use Rattle.tables.specs.Bit.{laneOf}
-use Rattle.meaning.proofs.Streams.{approximant}
+use Rattle.meaning.specs.Approximant.{approximant}
 use Rattle.lanes.proofs.Masks.{known-masked}
 use Rattle.lanes.proofs.Carries.{no-more}
 use Rattle.lanes.proofs.Recordings.{recording-until}

@@ -1,6 +1,6 @@
 use Prim.Native.Nat.{_≤_}
 use mathlib.Core.Logic.{⊎-elim}
-use Rattle.meaning.proofs.Rows.{Each, EachSignal}
+use Rattle.meaning.specs.Rows.{Each, EachSignal}
 use Rattle.normal_form.proofs.FormTables.{form-operands, row-operands, row-signals}
 use Rattle.truth.proofs.Filling.{loop-further, row-shown, earlier-shown, fill-enough}
 use borrow.Author.Needs.{needs}
