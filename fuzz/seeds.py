@@ -1,5 +1,5 @@
 #!/usr/bin/env python3
-"""Writes the first inputs of every fuzz target to FOLDER/TARGET/, from examples/ and crates/read_files/data.
+"""Writes the first inputs of every fuzz target to FOLDER/TARGET/, from examples/ and the files that crates/try_services reads alone.
 
     fuzz/seeds.py FOLDER
 
@@ -11,7 +11,8 @@ import random
 import sys
 
 ROOT = pathlib.Path(__file__).resolve().parent.parent
-DATA = ROOT / "crates/read_files/data"
+CASES = ROOT / "crates/try_services"
+DATA = CASES / "data"
 LONGEST = 1024
 ROWS = ["not 1", "and 1 2", "or 1 2", "next 1", "always 1", "ever 1", "weak 1 2", "until 1 2", "release 2 1", "srelease 2 1"]
 
@@ -22,8 +23,10 @@ def join(*files):
 
 
 def of_kind(kind):
-    """The contents of all files of a kind, in the order of their names."""
-    return [path.read_bytes() for path in sorted([*DATA.glob(f"{kind}-*"), *ROOT.glob(f"examples/*/{kind}.txt")])]
+    """The contents of all files of a kind, in the order of their paths."""
+    cases = [line.split() for line in (CASES / "args").read_text().splitlines()]
+    named = [DATA / words[1] for words in cases if words[0] == f"read_{kind}"]
+    return [path.read_bytes() for path in sorted([*named, *ROOT.glob(f"examples/*/{kind}.txt")]) if path.is_file()]
 
 
 def small(files):

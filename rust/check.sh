@@ -1,6 +1,7 @@
 #!/usr/bin/env bash
 # Tries the library from C and from Rust: builds it, holds its need of stack to the header's, runs the C program over examples/, the test
-# of steps in place, the tests of the Rust crates, the Rust program on an example, and the comparison with the second implementation.
+# of steps in place, the tests of the Rust crates, the Rust program on an example, and the comparison with the second implementation. Holds
+# what crates/try_services must print to the second implementation, and to what stands by hand in tests/.
 # Stops at the first failure; what a step printed is shown only then.
 #     rust/check.sh        CITRONHELM_LIB=FOLDER takes FOLDER/libcitronhelm.a in the place of building it
 set -euo pipefail
@@ -49,6 +50,8 @@ quietly c_answers "$scratch/long" "$scratch/absent" "$scratch/expected"
 cd rust
 export RUSTFLAGS="-D warnings"
 quietly cargo test --offline --locked --release --workspace
+quietly ../tests/make_cases.py --check
+tail -n 1 "$scratch/said"
 quietly rust_answers ../examples/rule_a/rule.txt ../examples/rule_a/take.txt verdict=holds
 cargo run --quiet --offline --locked --release -p compare
 echo "rust/check.sh: C judged $judged examples and stepped in place; the Rust crates' tests pass; library and second implementation agree"

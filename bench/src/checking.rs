@@ -49,23 +49,8 @@ pub fn check(rows: &[Row], take: &Take, sheet: &Sheet) -> Finding {
     }
 }
 
-/// A way of checking.
-pub type Check = fn(&[Row], &Take, &Sheet) -> Finding;
-
-impl Finding {
-    pub fn text(self) -> String {
-        match self {
-            Finding::Root => "finding=root\n".to_string(),
-            Finding::Failed { row, cycle } => format!("finding=failed\nrow={row}\ncycle={cycle}\n"),
-            Finding::Starved { row } => format!("finding=starved\nrow={row}\n"),
-            Finding::Pending { row } => format!("finding=pending\nrow={row}\n"),
-            Finding::Passes => "finding=passes\n".to_string(),
-        }
-    }
-}
-
 /// The finding for the rule, the take and the sheet in these files.
-pub fn check_files(rule: &[u8], take: &[u8], sheet: &[u8], check: Check) -> Result<Finding, Refusal> {
+pub fn check_files(rule: &[u8], take: &[u8], sheet: &[u8]) -> Result<Finding, Refusal> {
     let rule = read_rule(rule).map_err(|fault| fault.of(1))?;
     let take = read_take(take).map_err(|fault| fault.of(2))?;
     let sheet = read_sheet(sheet).map_err(|fault| fault.of(3))?;
@@ -75,9 +60,4 @@ pub fn check_files(rule: &[u8], take: &[u8], sheet: &[u8], check: Check) -> Resu
         return Err(Refusal { reason: 9, file: 0, line: 0 });
     }
     Ok(check(&rows, &take, &sheet))
-}
-
-/// What the program `check` prints for these three files.
-pub fn answer(rule: &[u8], take: &[u8], sheet: &[u8], check: Check) -> String {
-    check_files(rule, take, sheet, check).map_or_else(|refusal| refusal.text(), Finding::text)
 }

@@ -1,5 +1,4 @@
 // Judging.
-use crate::definition;
 use crate::reading::Refusal;
 use crate::rule::{normal, read_rule, Row, Rule};
 use crate::take::{go_together, read_take, Take};
@@ -45,14 +44,6 @@ pub fn judge(rule: &Rule, take: &Take) -> (usize, Verdict) {
     (plain.len(), verdict)
 }
 
-/// The same by the quantifiers of 01's meaning, on the rule as it is written; slow.
-pub fn judge_by_definition(rule: &Rule, take: &Take) -> (usize, Verdict) {
-    (definition::rows_reached(rule).len(), definition::verdict(rule, take))
-}
-
-/// A way of judging: how many rows the normal form has, and the verdict.
-pub type Judge = fn(&Rule, &Take) -> (usize, Verdict);
-
 fn read_pair(rule: &[u8], take: &[u8]) -> Result<(Rule, Take), Refusal> {
     let rule = read_rule(rule).map_err(|fault| fault.of(1))?;
     let take = read_take(take).map_err(|fault| fault.of(2))?;
@@ -69,7 +60,7 @@ pub fn judge_files(rule: &[u8], take: &[u8], looped: bool) -> Result<Verdict, Re
     Ok(judge(&rule, &take).1)
 }
 
-fn judged(rule: &[u8], take: &[u8], judge: Judge) -> Result<String, Refusal> {
+fn judged(rule: &[u8], take: &[u8]) -> Result<String, Refusal> {
     let (rule, take) = read_pair(rule, take)?;
     let (rows, verdict) = judge(&rule, &take);
     let end = take.loop_at.map_or("none".to_string(), |start| start.to_string());
@@ -77,6 +68,6 @@ fn judged(rule: &[u8], take: &[u8], judge: Judge) -> Result<String, Refusal> {
 }
 
 /// What the program `judge` prints for these two files.
-pub fn answer(rule: &[u8], take: &[u8], judge: Judge) -> String {
-    judged(rule, take, judge).unwrap_or_else(|refusal| refusal.text())
+pub fn answer(rule: &[u8], take: &[u8]) -> String {
+    judged(rule, take).unwrap_or_else(|refusal| refusal.text())
 }

@@ -2,15 +2,12 @@
 //! byte for each truth value, texts put together by formatting. Measured beside the library by the program `speed`.
 
 pub mod checking;
-pub mod definition;
 pub mod judging;
 pub mod making;
 pub mod monitors;
 pub mod normal;
-pub mod programs;
 pub mod reading;
 pub mod rule;
 pub mod sheets;
 pub mod take;
 pub mod truth;
-pub mod unrolled;

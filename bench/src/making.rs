@@ -1,6 +1,4 @@
 // Making sheets.
-use crate::definition;
-use crate::judging::Verdict;
 use crate::reading::Refusal;
 use crate::rule::{normal, read_rule, Rule};
 use crate::take::{go_together, read_take, Take};
@@ -17,22 +15,6 @@ pub fn make(rule: &Rule, take: &Take) -> Option<Vec<bool>> {
     }
 }
 
-/// The same by the quantifiers of 01's meaning, on the rule as it is written; slow.
-pub fn make_by_definition(rule: &Rule, take: &Take) -> Option<Vec<bool>> {
-    if !matches!(definition::verdict(rule, take), Verdict::Holds | Verdict::Kept) {
-        return None;
-    }
-    let mut truth = definition::truth(rule, take);
-    let mut table = Vec::new();
-    for (k, negated) in definition::rows_reached(rule) {
-        table.extend((0..take.cycles).map(|i| truth(k, negated, i)));
-    }
-    Some(table)
-}
-
-/// A way of making sheets.
-pub type Make = fn(&Rule, &Take) -> Option<Vec<bool>>;
-
 /// The sheet file of these activators.
 fn sheet_text(active: &[bool], cycles: usize) -> String {
     let mut text = format!("format=1\nrows={}\ncycles={cycles}\n", active.len() / cycles);
@@ -45,17 +27,9 @@ fn sheet_text(active: &[bool], cycles: usize) -> String {
 }
 
 /// The sheet file of the rule and the take in these files, or none.
-pub fn make_files(rule: &[u8], take: &[u8], make: Make) -> Result<Option<String>, Refusal> {
+pub fn make_files(rule: &[u8], take: &[u8]) -> Result<Option<String>, Refusal> {
     let rule = read_rule(rule).map_err(|fault| fault.of(1))?;
     let take = read_take(take).map_err(|fault| fault.of(2))?;
     go_together(&rule, &take)?;
     Ok(make(&rule, &take).map(|active| sheet_text(&active, take.cycles)))
-}
-
-/// What the program `sheet` prints for these two files.
-pub fn answer(rule: &[u8], take: &[u8], make: Make) -> String {
-    match make_files(rule, take, make) {
-        Ok(sheet) => sheet.unwrap_or("none\n".to_string()),
-        Err(refusal) => refusal.text(),
-    }
 }

@@ -1,12 +1,7 @@
-// The job of the program `judge`: reads rule.txt and take.txt, prints the verdict.
-// Run: judge [--definition] [RULE TAKE]
-//   --definition  judges by the quantifiers of 01's meaning (definition.rs); slow, for checking the usual way
-use plain::judging::{answer, judge, judge_by_definition};
+// The job of the program `judge`, to measure its memory beside: reads rule.txt and take.txt, prints the verdict or the refusal.
+use plain::judging::answer;
 
 fn main() {
-    plain::programs::run(
-        ["rule.txt", "take.txt"],
-        |[rule, take]| answer(rule, take, judge),
-        |[rule, take]| answer(rule, take, judge_by_definition),
-    );
+    let [rule, take] = ["rule.txt", "take.txt"].map(|name| std::fs::read(name).unwrap_or_default());
+    print!("{}", answer(&rule, &take));
 }

@@ -5,28 +5,44 @@ use std::fmt;
 /// The services, in the order of the table of counts.
 #[derive(Clone, Copy, Debug, PartialEq, Eq, PartialOrd, Ord)]
 pub enum Service {
+    /// Reads a rule file.
     ReadRule,
+    /// Reads a take file.
     ReadTake,
+    /// Reads a sheet file.
     ReadSheet,
+    /// The bound on the length of a normal form.
     Bound,
+    /// The rows of a normal form.
     Rows,
+    /// Writes the normal form of a rule or of its negation.
     Normal,
+    /// The verdict on a take of either kind.
     Judge,
+    /// The verdict on a looped take.
     JudgeLooped,
+    /// The verdict on an open take.
     JudgeOpen,
+    /// Writes what the program `judge` prints.
     JudgeText,
+    /// One cycle of the monitors.
     Step,
+    /// Writes a sheet, if there is one.
     MakeSheet,
+    /// The check of a sheet.
     CheckSheet,
 }
 
-/// A call: its inputs in the order of the service's parameters, whether the negated rule is meant (`Normal` only), and the output
-/// lent, as it is before the call.
+/// A call.
 #[derive(Clone)]
 pub struct Call {
+    /// The service that is called.
     pub service: Service,
+    /// Its inputs, in the order of the service's parameters.
     pub inputs: Vec<Vec<u8>>,
+    /// Whether the negated rule is meant (`Normal` only).
     pub negated: bool,
+    /// The output lent, as it is before the call.
     pub output: Vec<u8>,
 }
 
@@ -47,15 +63,19 @@ pub enum Answer {
     Refused(u8, u8, u32),
 }
 
-/// Everything that a call leaves: the answer, the inputs and the whole output.
+/// Everything that a call leaves.
 #[derive(Clone, Debug, PartialEq, Eq)]
 pub struct Outcome {
+    /// The answer.
     pub answer: Answer,
+    /// The inputs, which no call may change.
     pub inputs: Vec<Vec<u8>>,
+    /// The whole output.
     pub output: Vec<u8>,
 }
 
 impl Service {
+    /// All services.
     pub const ALL: [Service; 13] = [
         Service::ReadRule,
         Service::ReadTake,

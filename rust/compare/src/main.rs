@@ -1,51 +1,46 @@
 //! Holds the second implementation to the proved library: on the papers' cases, on all small rules and takes, and on random calls of
 //! every service.
 //!
-//!     compare [--seed N] [--runs N]
+//!     compare [--seed N] [--runs N] [--programs FOLDER]
 //!
 //! Every call is made by both, those of `judge` by the bit-parallel judge as well; answer, inputs and the whole output must be the
 //! same. At the first difference the inputs are printed, and the program fails. It also fails where a service never gave one of
 //! its possible answers: then the calls did not try everything.
+//!
+//! With `--programs` it runs the programs in the folder on the files of the random calls instead, and holds what they print to the second
+//! implementation.
 
 #![forbid(unsafe_code)]
 
-mod call;
-mod cases;
-mod comparison;
-mod damage;
-mod exhaustive;
-mod files;
-mod implementations;
-mod random;
-mod tally;
-mod trials;
-
-use call::{Call, Service};
-use comparison::same;
-use implementations::{by_proved, by_second, by_words};
-use random::Random;
+use compare::{
+    all_small, by_proved, by_second, by_words, hold_programs, papers_cases, random_calls, same, Call, Service, Tally,
+};
+use std::path::PathBuf;
 use std::process::ExitCode;
-use tally::Tally;
 
-/// The seed and the number of runs.
+/// The seed, the number of runs, and the folder of the programs.
 struct Options {
     seed: u64,
     runs: u64,
+    programs: Option<PathBuf>,
 }
 
 impl Options {
-    const USUAL: Options = Options { seed: 1, runs: 20_000 };
+    const USUAL: Options = Options { seed: 1, runs: 20_000, programs: None };
 
     fn parse(words: &[String]) -> Result<Options, String> {
         let mut options = Options::USUAL;
         for pair in words.chunks(2) {
-            let place = match pair[0].as_str() {
-                "--seed" => &mut options.seed,
-                "--runs" => &mut options.runs,
-                word => return Err(format!("unknown: {word}\nusage: compare [--seed N] [--runs N]")),
-            };
-            let value = pair.get(1).and_then(|value| value.parse().ok());
-            *place = value.ok_or(format!("{} needs a number", pair[0]))?;
+            let value = pair.get(1).ok_or(format!("{} needs a value", pair[0]))?;
+            let number = || value.parse().map_err(|_| format!("{} needs a number", pair[0]));
+            match pair[0].as_str() {
+                "--seed" => options.seed = number()?,
+                "--runs" => options.runs = number()?,
+                "--programs" => options.programs = Some(std::path::absolute(value).map_err(|fault| fault.to_string())?),
+                word => {
+                    return Err(format!("unknown: {word}\nusage: compare [--seed N] [--runs N] [--programs FOLDER]"))
+                }
+            }
         }
         Ok(options)
     }
@@ -53,8 +48,8 @@ impl Options {
 
 /// All cases and runs; the counts.
 fn compare(options: &Options) -> Result<Tally, String> {
-    cases::check(by_proved).map_err(|wrong| format!("the proved library is {wrong}"))?;
-    cases::check(by_second).map_err(|wrong| format!("the second implementation is {wrong}"))?;
+    papers_cases(by_proved).map_err(|wrong| format!("the proved library is {wrong}"))?;
+    papers_cases(by_second).map_err(|wrong| format!("the second implementation is {wrong}"))?;
     let mut tally = Tally::default();
     let mut make = |call: &Call| {
         tally.count(call.service, &same(call, by_proved, by_second)?);
@@ -63,14 +58,20 @@ fn compare(options: &Options) -> Result<Tally, String> {
         }
         Ok(())
     };
-    exhaustive::run(&mut make)?;
-    for run in 0..options.runs {
-        trials::run(&mut Random::new(options.seed.wrapping_mul(1 << 32).wrapping_add(run)), &mut make)?;
-    }
+    all_small(&mut make)?;
+    random_calls(options.seed, options.runs, &mut make)?;
     Ok(tally)
 }
 
 fn report(options: &Options) -> Result<(), String> {
+    if let Some(folder) = &options.programs {
+        let counts = hold_programs(folder, options.seed, options.runs)?;
+        println!(
+            "compare: the programs print what they must, {counts:?}, seed {}, {} runs",
+            options.seed, options.runs
+        );
+        return Ok(());
+    }
     let tally = compare(options)?;
     println!("{tally}");
     let faults = tally.faults();

@@ -16,8 +16,13 @@ struct Files {
     sheet: Vec<u8>,
 }
 
+/// So many runs, the same calls from the same seed.
+pub fn random_calls(seed: u64, runs: u64, make: Make) -> Result<(), String> {
+    (0..runs).try_for_each(|run| trial(&mut Random::new(seed.wrapping_mul(1 << 32).wrapping_add(run)), make))
+}
+
 /// One run: random files, calls of every service on them and on damaged copies, and steps.
-pub fn run(random: &mut Random, make: Make) -> Result<(), String> {
+fn trial(random: &mut Random, make: Make) -> Result<(), String> {
     let size = random_size(random);
     let files = random_files(random, size);
     on_files(random, &files, make)?;

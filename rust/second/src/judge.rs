@@ -74,7 +74,7 @@ pub fn either(rule: &Rule, take: &Take) -> Verdict {
 /// What the program `judge` prints.
 pub fn text(rule: &[u8], take: &[u8]) -> String {
     match read_pair(rule, take) {
-        Err(Refusal { number, file, line }) => format!("refused={number}\nfile={file}\nline={line}\n"),
+        Err(refusal) => refusal.to_string(),
         Ok((rule, take)) => {
             let rows = normal_form(&rule, false).rows.len();
             let start = take.start.map_or("none".to_string(), |cycle| cycle.to_string());

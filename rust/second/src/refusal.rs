@@ -1,5 +1,7 @@
 //! Why a call is turned back.
 
+use std::fmt;
+
 /// A refusal: its number from 1 to 10, its file (1 rule, 2 take, 3 sheet, 0 none) and its line (from 1, 0 for none).
 #[derive(Clone, Copy, Debug, PartialEq, Eq)]
 pub struct Refusal {
@@ -15,5 +17,13 @@ impl Refusal {
     /// A refusal that no file and no line is at fault for.
     pub(crate) fn of_call(number: u8) -> Self {
         Refusal { number, file: 0, line: 0 }
+    }
+}
+
+/// The three lines that a program prints.
+impl fmt::Display for Refusal {
+    fn fmt(&self, f: &mut fmt::Formatter<'_>) -> fmt::Result {
+        let Refusal { number, file, line } = self;
+        writeln!(f, "refused={number}\nfile={file}\nline={line}")
     }
 }

@@ -7,6 +7,7 @@ use crate::refusal::Refusal;
 use crate::rule::Rule;
 use crate::take::{Take, MOST_CYCLES};
 use crate::truth::{of_root, on_endless, strong};
+use std::fmt;
 
 /// The rows that a sheet file may have.
 const MOST_ROWS: usize = 128;
@@ -42,6 +43,19 @@ pub enum Finding {
     },
     /// None of these.
     Passes,
+}
+
+/// What the program `check_sheet` prints.
+impl fmt::Display for Finding {
+    fn fmt(&self, f: &mut fmt::Formatter<'_>) -> fmt::Result {
+        match self {
+            Finding::Root => writeln!(f, "finding=root"),
+            Finding::Failed { row, cycle } => writeln!(f, "finding=failed\nrow={row}\ncycle={cycle}"),
+            Finding::Starved { row } => writeln!(f, "finding=starved\nrow={row}"),
+            Finding::Pending { row } => writeln!(f, "finding=pending\nrow={row}"),
+            Finding::Passes => writeln!(f, "finding=passes"),
+        }
+    }
 }
 
 impl Sheet {

@@ -38,8 +38,8 @@ impl Inputs {
         let text = rule_text(&rule_rows(size.rows));
         let other = text.replace("signals=32\n", "signals=31\n").replace("sig 32\n", "sig 31\n").into_bytes();
         let (rule, looped) = (text.into_bytes(), take_text(&cycles, &(size.cycles / 2).to_string()));
-        let sheet = making::make_files(&rule, &looped, making::make).unwrap().expect("the rule holds").into_bytes();
-        let found = checking::check_files(&rule, &looped, &sheet, checking::check);
+        let sheet = making::make_files(&rule, &looped).unwrap().expect("the rule holds").into_bytes();
+        let found = checking::check_files(&rule, &looped, &sheet);
         assert_eq!(found, Ok(checking::Finding::Passes));
         let (pendings, activators) = run(&rule, &cycles, &sheet);
         let open = take_text(&cycles, "none");
@@ -86,7 +86,7 @@ fn take_cycles(count: usize) -> Vec<String> {
     let mut state = 1u64;
     let mut digit = |s: usize| {
         state = state.wrapping_mul(6364136223846793005).wrapping_add(1442695040888963407);
-        if (state >> 33) % 100 < if s % 4 > 0 { 85 } else { 15 } {
+        if (state >> 33) % 100 < if s.is_multiple_of(4) { 15 } else { 85 } {
             '1'
         } else {
             '0'

@@ -140,8 +140,8 @@ fn plain(service: Service, rule: &[u8], given: &Inputs, out: &mut Vec<u8>) -> u6
         JudgeLooped => judging::judge_files(rule, &given.looped, true).map(verdict),
         JudgeOpen => judging::judge_files(rule, &given.open, false).map(verdict),
         Step => monitors::step(rule, &given.pendings, &given.activators, &given.signals, out).map(|length| length as u64),
-        MakeSheet => making::make_files(rule, &given.looped, making::make).map(|made| made.map_or(0, |text| put(text.into_bytes()))),
-        CheckSheet => checking::check_files(rule, &given.looped, &given.sheet, checking::check).map(finding),
+        MakeSheet => making::make_files(rule, &given.looped).map(|made| made.map_or(0, |text| put(text.into_bytes()))),
+        CheckSheet => checking::check_files(rule, &given.looped, &given.sheet).map(finding),
     };
     answer.unwrap_or_else(|r| refused(r.reason.into(), r.file.into(), r.line as u64))
 }

@@ -1,0 +1,25 @@
+//! Calls of every service, to hold implementations together on: the papers' cases, all small rules and takes, and random calls, valid and
+//! damaged. What a call leaves is compared whole: the answer, the inputs and every byte of the output.
+
+#![forbid(unsafe_code)]
+
+mod call;
+mod cases;
+mod comparison;
+mod damage;
+mod exhaustive;
+mod files;
+mod implementations;
+mod programs;
+mod random;
+mod tally;
+mod trials;
+
+pub use call::{Answer, Call, Outcome, Service};
+pub use cases::check as papers_cases;
+pub use comparison::{same, Implementation};
+pub use exhaustive::run as all_small;
+pub use implementations::{by_proved, by_second, by_words};
+pub use programs::hold_programs;
+pub use tally::Tally;
+pub use trials::{random_calls, Make};

@@ -1,0 +1,98 @@
+//! What the program `try_services` has to print, by this implementation. Its arguments are the same: each is a case, the name of a
+//! service and its inputs, parted by spaces; files are read from the working folder.
+
+#![forbid(unsafe_code)]
+
+use second::{
+    bound, check_sheet, judge_text, make_sheet, normal, read_rule, read_sheet, read_take, step, Finding, Refusal,
+};
+
+/// The longest text of `judge` or `sheet`: a sheet of 128 rows and 256 cycles.
+const MOST_TEXT: usize = 33_567;
+/// The most digits of a sheet where all sheets are tried.
+const MOST_DIGITS: usize = 12;
+
+fn main() {
+    for case in std::env::args().skip(1) {
+        let words: Vec<&str> = case.split(' ').collect();
+        print!("{case}\n{}", answer(&words).unwrap_or_else(|refusal| refusal.to_string()));
+    }
+}
+
+/// What is printed of an answer; a refusal where it is nothing else.
+fn answer(words: &[&str]) -> Result<String, Refusal> {
+    let ok = |(): ()| "ok\n".to_string();
+    match *words {
+        ["read_rule", rule] => read_rule(&load(rule)).map(ok),
+        ["read_take", take] => read_take(&load(take)).map(ok),
+        ["read_sheet", sheet] => read_sheet(&load(sheet)).map(ok),
+        ["bound", rule] => bound(&load(rule)).map(|bytes| format!("bound={bytes}\n")),
+        ["normal", rule, size] => lent(rule, size, |rule, output| normal(rule, false, output)),
+        ["negated", rule, size] => lent(rule, size, |rule, output| normal(rule, true, output)),
+        ["step", rule, pendings, activators, signals, size] => lent(rule, size, |rule, output| {
+            step(rule, pendings.as_bytes(), activators.as_bytes(), signals.as_bytes(), output)
+        }),
+        ["judge", rule, take] => Ok(judged(rule, take)),
+        ["sheet", rule, take] => {
+            written(|output| make_sheet(&load(rule), &load(take), output)).map(|sheet| sheet.unwrap_or("none\n".into()))
+        }
+        ["check_sheet", rule, take, sheet] => {
+            check_sheet(&load(rule), &load(take), &load(sheet)).map(|finding| finding.to_string())
+        }
+        ["all_sheets", rule, take] => Ok(all_sheets(rule, take)),
+        _ => Ok("no such service\n".to_string()),
+    }
+}
+
+/// A file's bytes; none where it cannot be read.
+fn load(name: &str) -> Vec<u8> {
+    std::fs::read(name).unwrap_or_default()
+}
+
+/// The answer of a service with a rule and so many bytes lent, and all of these as the call left them. A rule that is refused has no
+/// table to call the service with.
+fn lent(
+    rule: &str,
+    size: &str,
+    service: impl FnOnce(&[u8], &mut [u8]) -> Result<usize, Refusal>,
+) -> Result<String, Refusal> {
+    let rule = load(rule);
+    read_rule(&rule)?;
+    let mut output = vec![b'.'; size.parse().expect("a size")];
+    let said =
+        service(&rule, &mut output).map_or_else(|refusal| refusal.to_string(), |length| format!("written={length}\n"));
+    Ok(format!("{said}{}\n", String::from_utf8_lossy(&output)))
+}
+
+/// The text that a service writes, if it writes one.
+fn written(service: impl FnOnce(&mut [u8]) -> Result<Option<usize>, Refusal>) -> Result<Option<String>, Refusal> {
+    let mut output = vec![0; MOST_TEXT];
+    let length = service(&mut output)?;
+    Ok(length.map(|length| String::from_utf8_lossy(&output[..length]).into_owned()))
+}
+
+fn judged(rule: &str, take: &str) -> String {
+    let text = written(|output| judge_text(&load(rule), &load(take), output).map(Some));
+    text.map_or_else(|refusal| refusal.to_string(), Option::unwrap_or_default)
+}
+
+/// The verdict, and how many of all sheets pass.
+fn all_sheets(rule: &str, take: &str) -> String {
+    let text = judged(rule, take);
+    let value = |key: &str| text.lines().find_map(|line| line.strip_prefix(key)?.strip_prefix('=')).expect("a verdict");
+    let [rows, cycles] = ["rows", "cycles"].map(|key| value(key).parse::<usize>().expect("a count"));
+    assert!(rows * cycles <= MOST_DIGITS);
+    let (rule, take) = (load(rule), load(take));
+    let passes =
+        |number: &usize| check_sheet(&rule, &take, sheet(rows, cycles, *number).as_bytes()) == Ok(Finding::Passes);
+    let passing = (0..1 << (rows * cycles)).filter(passes).count();
+    format!("verdict={}\npassing={passing}\n", value("verdict"))
+}
+
+/// The sheet file whose digits are those of a number.
+fn sheet(rows: usize, cycles: usize, number: usize) -> String {
+    let digits = format!("{number:0width$b}", width = rows * cycles);
+    let line = |row: usize| format!("z{}={}\n", row + 1, &digits[row * cycles..][..cycles]);
+    let lines: String = (0..rows).map(line).collect();
+    format!("format=1\nrows={rows}\ncycles={cycles}\n{lines}")
+}
