@@ -1,6 +1,7 @@
 -- The digits of a cycle and the lines of the cycles, one more at a time. Assumes nothing.
 use Prim.Native.Nat.{ℕ, _+_, _≤_, _<_, min}
 use mathlib.Core.Path.{_≡_, sym, ap, _∙_}
+use mathlib.Core.Bool.{Bool}
 use mathlib.Core.List.{List, [], _∷_, _++_, map, map-append}
 use native.Mathlib.Nat.{zero-add}
 use native.Mathlib.Numerals.{add-one}
@@ -32,7 +33,9 @@ module _ (lanes : List Lane) (c : ℕ) where
       → digitsText (map (λ (l : Lane). bitAt l c) (take s lanes)) ++ (pick (bitAt (getD lanes s d) c) 49 48 ∷ []) ≡ digitsText (map (λ (l : Lane). bitAt l c) (take (s + 1) lanes))
   digits-next s d h =
       let q : take (s + 1) lanes ≡ take s lanes ++ (getD lanes s d ∷ []) = ap (λ n. take n lanes) (add-one s) ∙ take-suc lanes s d h in
-      sym (rw q (ap digitsText (map-append (λ (l : Lane). bitAt l c) (take s lanes) (getD lanes s d ∷ [])) ∙ map-append (λ b. pick b 49 48) (map (λ (l : Lane). bitAt l c) (take s lanes)) (bitAt (getD lanes s d) c ∷ [])))
+      let bit : Lane → Bool = λ l. bitAt l c in
+      let two = map-append {B = ℕ} (λ b. pick b 49 48) (map bit (take s lanes)) (bit (getD lanes s d) ∷ []) in
+      sym (rw q (ap digitsText (map-append bit (take s lanes) (getD lanes s d ∷ [])) ∙ two))
 
 pub digits-more : {lanes : List Lane} {c : ℕ} {before : List ℕ} {at s : ℕ} {buf : List ℕ} {i : ℕ} → DigitsAt lanes c before at s buf i
     → (d : Lane) {after : List ℕ} {j : ℕ} → s < length lanes → Wrote buf i (pick (bitAt (getD lanes s d) c) 49 48 ∷ []) after j → DigitsAt lanes c before at (s + 1) after j

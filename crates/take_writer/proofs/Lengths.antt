@@ -68,7 +68,11 @@ module _ (t : Trace) (full : length (t .lanes) ≡ 32) (ok : InRange t) where
       let c : List ℕ = writtenLine (bytes "cycles") (decimal (t .cycles)) d in
       let b : List ℕ = writtenLine (bytes "signals") (decimal (t .signals)) c in
       let one : length (decimal 1) ≡ 1 = sym (ap length (decimal-one 1 (omega arith))) in
-      omega (arith, line-length (bytes "format") (decimal 1) b, line-length (bytes "signals") (decimal (t .signals)) c, line-length (bytes "cycles") (decimal (t .cycles)) d, line-length (bytes "loop") (endingText (t .ending)) body)
+      let first = line-length (bytes "format") (decimal 1) b in
+      let second = line-length (bytes "signals") (decimal (t .signals)) c in
+      let third = line-length (bytes "cycles") (decimal (t .cycles)) d in
+      let fourth = line-length (bytes "loop") (endingText (t .ending)) body in
+      omega arith
 
   -- there is a line of a cycle, of five bytes at least
   pub body-some : 5 ≤ length (writtenBody 99 digitsText 0 (cyclesOf t))

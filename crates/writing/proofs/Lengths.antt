@@ -64,7 +64,10 @@ header-most signals rows body hs hm =
     let rows-line : List ℕ = writtenLine (bytes "rows") (decimal rows) body in
     let signals-line : List ℕ = writtenLine (bytes "signals") (decimal signals) rows-line in
     let one : length (decimal 1) ≡ 1 = sym (ap length (decimal-one 1 (omega arith))) in
-    omega (arith, one, line-length (bytes "format") (decimal 1) signals-line, line-length (bytes "signals") (decimal signals) rows-line, line-length (bytes "rows") (decimal rows) body, decimal-two-most signals hs, decimal-most rows hm)
+    let first = line-length (bytes "format") (decimal 1) signals-line in
+    let second = line-length (bytes "signals") (decimal signals) rows-line in
+    let third = line-length (bytes "rows") (decimal rows) body in
+    omega (arith, decimal-two-most signals hs, decimal-most rows hm)
 
 -- ROWS IN RANGE, as a rule file
 pub text-most : (signals rows : ℕ) (rs : List Row) → signals ≤ 32 → rows < 1000 → length rs < 1000 → EachAt (λ k r. inRange signals k r ≡ true) 1 rs

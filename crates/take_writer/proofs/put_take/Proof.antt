@@ -18,39 +18,74 @@ put-number-line-requires c κs =
     let trace = start .args .trace in
     let ok = start .pre .0 in
     let full : length (trace .lanes) ≡ 32 = sym (length-map (trace .lanes) _) ∙ start .good .1 .0 .1 .1 .1 .1 .1 .0 .1 .0 .1 in
-    omega (arith, start .pre .1, parts trace full ok, ok .most-signals, ok .most-cycles)
+    let lengths = parts trace full ok in
+    omega (arith, start .pre .1, ok .most-signals, ok .most-cycles)
 
 put-number-line-requires-2 : tie.Need-put-number-line-requires-2
 put-number-line-requires-2 c κs =
-    let start = c .before .before .before .before .before .before .before .before .before in
+    let first = c .before .before .before .before .before in
+    let start = first .before .before .before .before in
     let trace = start .args .trace in
     let ok = start .pre .0 in
     let full : length (trace .lanes) ≡ 32 = sym (length-map (trace .lanes) _) ∙ start .good .1 .0 .1 .1 .1 .1 .1 .0 .1 .0 .1 in
-    omega (arith, start .pre .1, parts trace full ok, c .before .before .before .before .before .put-number-line .ensures .0 .next, line-length (bytes "format") (decimal 1) [], ok .most-signals, ok .most-cycles)
+    let lengths = parts trace full ok in
+    let behind-first = first .put-number-line .ensures .0 .next in
+    let first-length = line-length (bytes "format") (decimal 1) [] in
+    omega (arith, start .pre .1, ok .most-signals, ok .most-cycles)
 
 put-number-line-requires-3 : tie.Need-put-number-line-requires-3
 put-number-line-requires-3 c κs =
-    let start = c .before .before .before .before .before .before .before .before .before .before .before .before .before .before .before in
+    let second = c .before .before .before .before .before in
+    let first = second .before .before .before .before .before .before in
+    let start = first .before .before .before .before in
     let trace = start .args .trace in
     let ok = start .pre .0 in
     let full : length (trace .lanes) ≡ 32 = sym (length-map (trace .lanes) _) ∙ start .good .1 .0 .1 .1 .1 .1 .1 .0 .1 .0 .1 in
-    omega (arith, start .pre .1, parts trace full ok, c .before .before .before .before .before .before .before .before .before .before .before .put-number-line .ensures .0 .next, line-length (bytes "format") (decimal 1) [], c .before .before .before .before .before .put-number-line2 .ensures .0 .next, line-length (bytes "signals") (decimal (trace .signals)) [], ok .most-signals, ok .most-cycles)
+    let lengths = parts trace full ok in
+    let behind-second = second .put-number-line2 .ensures .0 .next in
+    let second-length = line-length (bytes "signals") (decimal (trace .signals)) [] in
+    let behind-first = first .put-number-line .ensures .0 .next in
+    let first-length = line-length (bytes "format") (decimal 1) [] in
+    omega (arith, start .pre .1, ok .most-signals, ok .most-cycles)
 
 put-ending-requires : tie.Need-put-ending-requires
 put-ending-requires c κs =
-    let start = c .before .before .before .before .before .before .before .before .before .before .before .before .before .before .before .before .before .before .before in
+    let third = c .before .before .before in
+    let second = third .before .before .before .before .before .before in
+    let first = second .before .before .before .before .before .before in
+    let start = first .before .before .before .before in
     let trace = start .args .trace in
     let ok = start .pre .0 in
     let full : length (trace .lanes) ≡ 32 = sym (length-map (trace .lanes) _) ∙ start .good .1 .0 .1 .1 .1 .1 .1 .0 .1 .0 .1 in
-    (omega (arith, start .pre .1, parts trace full ok, c .before .before .before .before .before .before .before .before .before .before .before .before .before .before .before .put-number-line .ensures .0 .next, line-length (bytes "format") (decimal 1) [], c .before .before .before .before .before .before .before .before .before .put-number-line2 .ensures .0 .next, line-length (bytes "signals") (decimal (trace .signals)) [], c .before .before .before .put-number-line3 .ensures .0 .next, line-length (bytes "cycles") (decimal (trace .cycles)) [], ok .most-signals, ok .most-cycles), ending-small (trace .ending) (trace .cycles) 1000 (omega (arith, ok .most-cycles)) (ok .loop))
+    let lengths = parts trace full ok in
+    let behind-third = third .put-number-line3 .ensures .0 .next in
+    let third-length = line-length (bytes "cycles") (decimal (trace .cycles)) [] in
+    let behind-second = second .put-number-line2 .ensures .0 .next in
+    let second-length = line-length (bytes "signals") (decimal (trace .signals)) [] in
+    let behind-first = first .put-number-line .ensures .0 .next in
+    let first-length = line-length (bytes "format") (decimal 1) [] in
+    (omega (arith, start .pre .1, ok .most-signals, ok .most-cycles), ending-small (trace .ending) (trace .cycles) 1000 (omega (arith, ok .most-cycles)) (ok .loop))
 
 put-cycles-requires : tie.Need-put-cycles-requires
 put-cycles-requires c κs =
-    let start = c .before .before .before .before .before .before .before .before .before .before .before .before .before .before .before .before .before .before .before .before .before .before .before in
+    let ending = c .before .before .before in
+    let third = ending .before .before .before .before in
+    let second = third .before .before .before .before .before .before in
+    let first = second .before .before .before .before .before .before in
+    let start = first .before .before .before .before in
     let trace = start .args .trace in
     let ok = start .pre .0 in
     let full : length (trace .lanes) ≡ 32 = sym (length-map (trace .lanes) _) ∙ start .good .1 .0 .1 .1 .1 .1 .1 .0 .1 .0 .1 in
-    (ok, omega (arith, start .pre .1, parts trace full ok, c .before .before .before .before .before .before .before .before .before .before .before .before .before .before .before .before .before .before .before .put-number-line .ensures .0 .next, line-length (bytes "format") (decimal 1) [], c .before .before .before .before .before .before .before .before .before .before .before .before .before .put-number-line2 .ensures .0 .next, line-length (bytes "signals") (decimal (trace .signals)) [], c .before .before .before .before .before .before .before .put-number-line3 .ensures .0 .next, line-length (bytes "cycles") (decimal (trace .cycles)) [], c .before .before .before .put-ending .ensures .0 .next, line-length (bytes "loop") (endingText (trace .ending)) [], ok .most-signals, ok .most-cycles))
+    let lengths = parts trace full ok in
+    let behind-ending = ending .put-ending .ensures .0 .next in
+    let ending-length = line-length (bytes "loop") (endingText (trace .ending)) [] in
+    let behind-third = third .put-number-line3 .ensures .0 .next in
+    let third-length = line-length (bytes "cycles") (decimal (trace .cycles)) [] in
+    let behind-second = second .put-number-line2 .ensures .0 .next in
+    let second-length = line-length (bytes "signals") (decimal (trace .signals)) [] in
+    let behind-first = first .put-number-line .ensures .0 .next in
+    let first-length = line-length (bytes "format") (decimal 1) [] in
+    (ok, omega (arith, start .pre .1, ok .most-signals, ok .most-cycles))
 
 returns : tie.Need-returns
 unfolding writtenTake

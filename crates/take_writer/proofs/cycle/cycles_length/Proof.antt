@@ -13,7 +13,10 @@ add-length-2 : tie.Need-add-length-2
 add-length-2 c = let start = c .before in omega (arith, mul-le-mul-right (start .args .signals + 4) (start .pre))
 
 add-length-3 : tie.Need-add-length-3
-add-length-3 c = let start = c .before .before .before in ⊎-elim (λ w. omega (arith, mul-le-mul-right (start .args .signals + 4) (start .pre))) (λ w. omega (arith, mul-le-mul-right (start .args .signals + 4) (start .pre))) (c .before .before .if1 .came)
+add-length-3 c =
+    let start = c .before .before .before in
+    let most = mul-le-mul-right (start .args .signals + 4) (start .pre) in
+    ⊎-elim (λ w. omega arith) (λ w. omega arith) (c .before .before .if1 .came)
 
 returns : tie.Need-returns
 returns c = ⊎-elim (λ w. omega arith) (λ w. omega arith) (c .before .before .if1 .came)

@@ -1,4 +1,3 @@
-use mathlib.Core.List.{[], _∷_}
 use mathlib.Core.Path.{_≡_, sym, _∙_}
 use native.Mathlib.Omega.{arith}
 use lib.ListN.{length, length-map}
@@ -10,31 +9,64 @@ use Rattle.take_writer.proofs.cycle.put_cycle.Tie as tie
 
 put-number-requires : tie.Need-put-number-requires
 put-number-requires c κs =
-    let start = c .before .before .before .before .before .before in
+    let letter = c .before .before .before in
+    let start = letter .before .before .before in
     let trace = start .args .trace in
+    let ok = start .pre .0 in
     let full : length (trace .lanes) ≡ 32 = sym (length-map (trace .lanes) _) ∙ start .good .1 .1 .0 .1 .1 .1 .1 .1 .0 .1 .0 .1 in
-    omega (arith, start .pre .2, cycle-line trace full (start .pre .0) (start .args .cycle), decimal-some (start .args .cycle), start .pre .0 .some-signals, start .pre .0 .most-signals, c .before .before .before .put-byte .ensures .next)
+    let line = cycle-line trace full ok (start .args .cycle) in
+    let some = decimal-some (start .args .cycle) in
+    let behind-letter = letter .put-byte .ensures .next in
+    omega (arith, start .pre .2, start .pre .1, ok .some-signals, ok .most-signals)
 
 put-byte-requires-2 : tie.Need-put-byte-requires-2
 put-byte-requires-2 c κs =
-    let start = c .before .before .before .before .before .before .before .before .before .before in
+    let number = c .before .before .before in
+    let letter = number .before .before .before .before in
+    let start = letter .before .before .before in
     let trace = start .args .trace in
+    let ok = start .pre .0 in
     let full : length (trace .lanes) ≡ 32 = sym (length-map (trace .lanes) _) ∙ start .good .1 .1 .0 .1 .1 .1 .1 .1 .0 .1 .0 .1 in
-    omega (arith, start .pre .2, cycle-line trace full (start .pre .0) (start .args .cycle), decimal-some (start .args .cycle), start .pre .0 .some-signals, start .pre .0 .most-signals, c .before .before .before .before .before .before .before .put-byte .ensures .next, c .before .before .before .put-number .ensures .0 .next)
+    let line = cycle-line trace full ok (start .args .cycle) in
+    let some = decimal-some (start .args .cycle) in
+    let behind-number = number .put-number .ensures .0 .next in
+    let behind-letter = letter .put-byte .ensures .next in
+    omega (arith, start .pre .2, start .pre .1, ok .some-signals, ok .most-signals)
 
 put-digits-requires : tie.Need-put-digits-requires
 put-digits-requires c κs =
-    let start = c .before .before .before .before .before .before .before .before .before .before .before .before .before .before in
+    let sign = c .before .before .before in
+    let number = sign .before .before .before .before in
+    let letter = number .before .before .before .before in
+    let start = letter .before .before .before in
     let trace = start .args .trace in
+    let ok = start .pre .0 in
     let full : length (trace .lanes) ≡ 32 = sym (length-map (trace .lanes) _) ∙ start .good .1 .1 .0 .1 .1 .1 .1 .1 .0 .1 .0 .1 in
-    omega (arith, start .pre .2, cycle-line trace full (start .pre .0) (start .args .cycle), decimal-some (start .args .cycle), start .pre .0 .some-signals, start .pre .0 .most-signals, c .before .before .before .before .before .before .before .before .before .before .before .put-byte .ensures .next, c .before .before .before .before .before .before .before .put-number .ensures .0 .next, c .before .before .before .put-byte2 .ensures .next, start .pre .1)
+    let line = cycle-line trace full ok (start .args .cycle) in
+    let some = decimal-some (start .args .cycle) in
+    let behind-sign = sign .put-byte2 .ensures .next in
+    let behind-number = number .put-number .ensures .0 .next in
+    let behind-letter = letter .put-byte .ensures .next in
+    omega (arith, start .pre .2, start .pre .1, ok .some-signals, ok .most-signals)
 
 put-byte-requires-3 : tie.Need-put-byte-requires-3
 put-byte-requires-3 c κs =
-    let start = c .before .before .before .before .before .before .before .before .before .before .before .before .before .before .before .before .before .before in
+    let digits = c .before .before .before in
+    let sign = digits .before .before .before .before in
+    let number = sign .before .before .before .before in
+    let letter = number .before .before .before .before in
+    let start = letter .before .before .before in
     let trace = start .args .trace in
+    let ok = start .pre .0 in
     let full : length (trace .lanes) ≡ 32 = sym (length-map (trace .lanes) _) ∙ start .good .1 .1 .0 .1 .1 .1 .1 .1 .0 .1 .0 .1 in
-    omega (arith, start .pre .2, cycle-line trace full (start .pre .0) (start .args .cycle), decimal-some (start .args .cycle), start .pre .0 .some-signals, start .pre .0 .most-signals, c .before .before .before .before .before .before .before .before .before .before .before .before .before .before .before .put-byte .ensures .next, c .before .before .before .before .before .before .before .before .before .before .before .put-number .ensures .0 .next, c .before .before .before .before .before .before .before .put-byte2 .ensures .next, c .before .before .before .put-digits .ensures .next, cycle-length trace full (start .pre .0) (start .args .cycle))
+    let line = cycle-line trace full ok (start .args .cycle) in
+    let some = decimal-some (start .args .cycle) in
+    let all = cycle-length trace full ok (start .args .cycle) in
+    let behind-digits = digits .put-digits .ensures .next in
+    let behind-sign = sign .put-byte2 .ensures .next in
+    let behind-number = number .put-number .ensures .0 .next in
+    let behind-letter = letter .put-byte .ensures .next in
+    omega (arith, start .pre .2, start .pre .1, ok .some-signals, ok .most-signals)
 
 returns : tie.Need-returns
 returns c =

@@ -24,7 +24,8 @@ loop-again : tie.Need-loop-again Inv-loop μ-loop
 loop-again c = let e : length (c .before .before .before .before .before .before .before .before .args .t3 .places) ≡ 128 =
     sym (length-map (c .before .before .before .before .before .before .before .before .args .t3 .places) _)
     ∙ c .before .before .before .before .before .before .before .before .good .1 .1 .0 .1 .1 .1 .1 .0 .1 .0 .1 in
-    rows-more (c .before .before .before .before .before .before .loop .inv) (omega arith) (inPlace unused) (omega arith) (c .before .before .put-row-line .ensures .0) (c .before .before .put-row-line .ensures .1)
+    rows-more (c .before .before .before .before .before .before .loop .inv) (omega arith) (inPlace unused) (omega arith)
+    (c .before .before .put-row-line .ensures .0) (c .before .before .put-row-line .ensures .1)
 
 same-length : tie.Need-same-length Inv-loop μ-loop
 same-length c = c .before .loop .inv .text .size
