@@ -29,7 +29,8 @@ use Rattle.normal_form.specs.declared.sign.Sign.{Sign}
 use Rattle.normal_form.proofs.Ranges.{form-normal}
 use Rattle.writing.specs.Refusal.{refusalText}
 use Rattle.normal_file.specs.Answer.{output}
-use Rattle.normal_file.proofs.Lengths.{output-most, decimal-most}
+use Rattle.normal_file.proofs.Lengths.{output-most}
+use Rattle.writing.proofs.Lengths.{decimal-most}
 use Rattle.judging.specs.declared.verdict.Verdict.{Verdict}
 use Rattle.judging.specs.declared.verdict.Verdict.the-variants.{Holds, Breaks, Kept, Broken, Open as Undecided}
 use Rattle.judge_text.specs.Text.{verdictText, verdictWord}

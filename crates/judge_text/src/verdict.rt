@@ -5,7 +5,6 @@ ghost use lib.ListN.{length};
 ghost use Rattle.tables.specs.Bytes.{bytes};
 ghost use Rattle.text.specs.Written.{writtenLine};
 ghost use Rattle.take_file.specs.Valid.{Below};
-ghost use Rattle.take_file.specs.Written.{endingText};
 ghost use Rattle.writing.specs.Answer.{Delivers};
 ghost use Rattle.writing.specs.Lent.{Wrote};
 ghost use Rattle.judge_text.specs.Text.{verdictText, verdictWord};
@@ -14,17 +13,6 @@ use tables::trace::Ending;
 use writing::answer::Bytes;
 use writing::line::put_number_line;
 use writing::line::put_text_line;
-
-fn put_ending(buf: &mut [u8], at: usize, ending: Ending) -> usize
-    requires { ⌜ (at + 10 ≤ length (now buf)) × Below 1000 ending ⌝ }
-    ensures { λ r. ⌜ Wrote (now (buf .entry)) at (writtenLine (bytes "loop") (endingText ending) []) (now (buf .exit)) r ⌝ }
-    ensures { λ r. ⌜ r ≤ at + 10 ⌝ }
-{
-    match ending {
-        Ending::Open => put_text_line(buf, at, b"loop", b"none"),
-        Ending::Loop(cycle) => put_number_line(buf, at, b"loop", cycle as u32),
-    }
-}
 
 fn put_word(buf: &mut [u8], at: usize, verdict: Verdict) -> usize
     requires { ⌜ at + 15 ≤ length (now buf) ⌝ }
@@ -56,7 +44,7 @@ fn put_verdict(
     let a = put_number_line(&mut *buf, 0, b"signals", signals as u32);
     let b = put_number_line(&mut *buf, a, b"rows", rows as u32);
     let c = put_number_line(&mut *buf, b, b"cycles", cycles as u32);
-    let d = put_ending(&mut *buf, c, ending);
+    let d = take_writer::ending::put_ending(&mut *buf, c, ending);
     put_word(buf, d, verdict)
 }
 

@@ -4,10 +4,11 @@ use mathlib.Core.Path.{_≡_, refl, ap, _∙_}
 use mathlib.Core.Bool.{Bool, false}
 use mathlib.Core.List.{List, [], _∷_, _++_}
 use lib.ListN.{getD, length, replicate, List·getD-eq-default}
+use lib.Seq.{getD-append-seam}
 use Rattle.tables.specs.Bit.{bitAt, laneOf}
 use Rattle.tables.specs.declared.trace.Lane.{Lane}
 use Rattle.tables.proofs.Bits.{bit-of-lane}
-use Rattle.tables.proofs.Places.{getD-tabulate}
+use Rattle.tables.proofs.Places.{getD-tabulate, snoc-other}
 use Rattle.recording.specs.Recording.{digit, lanesOf, wordsOf, Recorded, lanesFrom}
 use Rattle.recording.proofs.Words.{lanes-of-words, lanes-none}
 
@@ -22,6 +23,14 @@ lanes-recorded cs e = ap lanesFrom e ∙ lanes-of-words cs
 -- and so many zeros are the lanes of no cycle
 pub lanes-empty : lanesOf [] ≡ replicate 32 (record { words = replicate 4 0 })
 lanes-empty = lanes-none
+
+-- one cycle more: its digits are its own, and those of the others as they were
+module _ (cs : List (List Bool)) (ds : List Bool) (s : ℕ) where
+  pub digit-last : digit (cs ++ (ds ∷ [])) (length cs) s ≡ getD ds s false
+  digit-last = ap (λ xs. getD xs s false) (getD-append-seam cs ds [] [])
+
+  pub digit-earlier : (c : ℕ) → (c ≡ length cs → ⊥) → digit (cs ++ (ds ∷ [])) c s ≡ digit cs c s
+  digit-earlier c n = ap (λ xs. getD xs s false) (snoc-other cs ds [] c n)
 
 -- AND NOTHING ELSE: the bit of each cycle and signal is that digit, and 0 behind the last cycle and behind the last signal
 module _ (cs : List (List Bool)) (s c : ℕ) where

@@ -17,9 +17,12 @@ abbrev pub endingText : Ending → List ℕ
 endingText Open = bytes "none"
 endingText (Loop n) = decimal n
 
--- the digits of each cycle. "Unused places are not written": a trace has places for 256 cycles and 32 signals.
+-- the digits of a cycle, and of each. "Unused places are not written": a trace has places for 256 cycles and 32 signals.
+abbrev pub cycleOf : Trace → ℕ → List Bool
+cycleOf t c = map (λ (l : Lane). bitAt l c) (take (t .signals) (t .lanes))
+
 abbrev pub cyclesOf : Trace → List (List Bool)
-cyclesOf t = tabulate (min (t .cycles) 256) (λ c. map (λ (l : Lane). bitAt l c) (take (t .signals) (t .lanes)))
+cyclesOf t = tabulate (min (t .cycles) 256) (cycleOf t)
 
 -- "A table handed to a service is checked as if written out as its file"
 unfoldable pub writtenTake : Trace → List ℕ

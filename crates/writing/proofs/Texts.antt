@@ -1,5 +1,5 @@
 -- Laws of texts put one behind the other into a buffer. Assumes nothing.
-use Prim.Native.Nat.{ℕ, suc, _+_, _-_, _/_, _%_, _≤_, _<_}
+use Prim.Native.Nat.{ℕ, zero, suc, _+_, _-_, _/_, _%_, _≤_, _<_}
 use mathlib.Core.Path.{_≡_, refl, sym, ap, ap₂, subst, _∙_}
 use mathlib.Core.List.{List, [], _∷_, _++_, map, append-assoc, append-nil}
 use native.Mathlib.Numerals.{add-one}
@@ -8,8 +8,12 @@ use native.Mathlib.Omega.{arith}
 use lib.ListN.{length, getD, set, take, drop, length-append, length-set, length-take, take-append-drop, length-map, List·getD-map}
 use lib.Seq.{paste, paste-suc, length-paste, take-paste, drop-paste, take-all, take-suc, drop-drop, drop-set-lt, take-suc-set, length-take-le, getD-take}
 use borrow.Author.Tests.{lt-ltb, le-ltb, le-leb, lt-leb}
+use Rattle.text.proofs.Laws.{line-length}
 use Rattle.text.proofs.Numbers.{decimal-large}
 use Rattle.text.specs.Written.{decimalIn, decimal, writtenLine, writtenBody}
+use Rattle.tables.specs.declared.row.Row.{Row}
+use Rattle.rule_row.specs.Written.{writtenRow}
+use Rattle.rule_file.specs.Written.{ruleText}
 use Rattle.writing.specs.Lent.{Wrote, overlaid}
 
 -- lists that agree from e on agree from any later place on
@@ -120,6 +124,11 @@ line-front key value rest =
 pub wrote-line : {b m a : List ℕ} {at e f : ℕ} (key value : List ℕ) {rest : List ℕ} → Wrote b at (writtenLine key value []) m e → Wrote m e rest a f → Wrote b at (writtenLine key value rest) a f
 wrote-line key value {rest} x y = wrote-is (sym (line-front key value rest)) (wrote-both x y)
 
+-- a rule file is its counts and the lines of its rows
+pub counts-front : (signals rows : ℕ) (rs : List Row) → ruleText signals rows [] ++ writtenBody 114 writtenRow 1 rs ≡ ruleText signals rows rs
+unfolding writtenBody
+counts-front signals rows rs = simp append-assoc
+
 module _ {A : Type 0} (letter : ℕ) (text : A → List ℕ) where
   body-more : (xs : List A) (x : A) (k : ℕ) → writtenBody letter text k (xs ++ (x ∷ [])) ≡ writtenBody letter text k xs ++ writtenLine (letter ∷ decimal (k + length xs)) (text x) []
   unfolding writtenBody
@@ -131,12 +140,26 @@ module _ {A : Type 0} (letter : ℕ) (text : A → List ℕ) where
       rw (e, body-more ys x (k + 1)) (line-front l (text y) (writtenBody letter text (k + 1) ys ++ m) ∙ (sym (append-assoc (writtenLine l (text y) []) (writtenBody letter text (k + 1) ys) m) ∙ ap (λ s. s ++ m) (sym (line-front l (text y) (writtenBody letter text (k + 1) ys)))))
 
   -- the next line behind the first k
+  pub body-from : (start : ℕ) (xs : List A) (k : ℕ) (d : A) → k < length xs
+      → writtenBody letter text start (take k xs) ++ writtenLine (letter ∷ decimal (start + k)) (text (getD xs k d)) [] ≡ writtenBody letter text start (take (k + 1) xs)
+  body-from start xs k d h =
+      let e : length (take k xs) ≡ k = length-take-le k xs (omega arith) in
+      let q : take (k + 1) xs ≡ take k xs ++ (getD xs k d ∷ []) = ap (λ n. take n xs) (add-one k) ∙ take-suc xs k d h in
+      sym (rw (q, body-more (take k xs) (getD xs k d) start, e))
+
   pub body-next : (xs : List A) (k : ℕ) (d : A) → k < length xs
       → writtenBody letter text 1 (take k xs) ++ writtenLine (letter ∷ decimal (k + 1)) (text (getD xs k d)) [] ≡ writtenBody letter text 1 (take (k + 1) xs)
-  body-next xs k d h =
-      let e : 1 + length (take k xs) ≡ k + 1 = omega (arith, length-take-le k xs (omega arith)) in
-      let q : take (k + 1) xs ≡ take k xs ++ (getD xs k d ∷ []) = ap (λ n. take n xs) (add-one k) ∙ take-suc xs k d h in
-      sym (rw (q, body-more (take k xs) (getD xs k d) 1, e))
+  body-next xs k d h = let e : 1 + k ≡ k + 1 = omega arith in rw e at (body-from 1 xs k d h)
+
+  -- the lines of the first k are no longer than all
+  pub body-prefix : (k start : ℕ) (xs : List A) → length (writtenBody letter text start (take k xs)) ≤ length (writtenBody letter text start xs)
+  unfolding writtenBody
+  body-prefix zero start xs = omega arith
+  body-prefix (suc k) start [] = omega arith
+  body-prefix (suc k) start (x ∷ xs) =
+      let a = body-prefix k (start + 1) xs in
+      let l : List ℕ = letter ∷ decimal start in
+      omega (arith, line-length l (text x) (writtenBody letter text (start + 1) (take k xs)), line-length l (text x) (writtenBody letter text (start + 1) xs))
 
 -- the lines of a table's used places, of which f says what they hold
 module _ {A B : Type 0} (f : A → B) (n : ℕ) (places : List A) (room : n ≤ length places) where

@@ -3,6 +3,7 @@ ghost use mathlib.Core.Path.{_≡_};
 ghost use mathlib.Core.List.{[], _∷_};
 ghost use Prim.Native.Nat.{_+_, _≤_, _<_};
 ghost use lib.ListN.{length};
+ghost use Rattle.tables.specs.Choice.{pick};
 ghost use Rattle.text.specs.Written.{decimal};
 ghost use Rattle.writing.specs.Lent.{Wrote, numberRoom};
 
@@ -32,6 +33,17 @@ fn digit(n: u32) -> u8
     ensures { λ r. ⌜ r ≡ 48 + n ⌝ }
 {
     48 + n as u8
+}
+
+// A digit 0 or 1.
+pub fn put_bit(buf: &mut [u8], at: usize, on: bool) -> usize
+    requires { ⌜ at + 1 ≤ length (now buf) ⌝ }
+    ensures text { λ r. ⌜ Wrote (now (buf .entry)) at (pick on 49 48 ∷ []) (now (buf .exit)) r ⌝ }
+{
+    if on {
+        return put_byte(buf, at, b'1');
+    }
+    put_byte(buf, at, b'0')
 }
 
 // A number of at most three digits.

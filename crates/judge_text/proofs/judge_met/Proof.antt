@@ -7,7 +7,7 @@ use Rattle.meeting.specs.declared.Wanted.the-variants.{Either}
 use Rattle.meeting.proofs.Laws.{meeting-line}
 use Rattle.judge_text.specs.Text.{verdictText}
 use Rattle.judge_text.specs.Answer.{IsVerdictText}
-use Rattle.judge_text.proofs.Answers.{below-more}
+use Rattle.take_writer.proofs.Lengths.{ending-small}
 use borrow.Author.Needs.{needs}
 use Rattle.judge_text.proofs.judge_met.Statement.{statement}
 use Rattle.judge_text.proofs.judge_met.Tie as tie
@@ -19,7 +19,7 @@ decide-requires : tie.Need-decide-requires
 decide-requires c κs = (c .before .before .before .meet .ensures .1 (c .before .enum-told .given .1), c .before .before .before .before .before .pre .0, c .before .before .before .before .before .pre .1)
 
 deliver-verdict-requires : tie.Need-deliver-verdict-requires
-deliver-verdict-requires c κs = (omega (arith, c .before .before .before .before .before .before .before .pre .1 .most-cycles), below-more (c .before .before .before .before .before .before .before .args .trace .ending) (c .before .before .before .before .before .before .before .args .trace .cycles) 1000 (omega (arith, c .before .before .before .before .before .before .before .pre .1 .most-cycles)) (c .before .before .before .before .before .before .before .pre .1 .loop))
+deliver-verdict-requires c κs = (omega (arith, c .before .before .before .before .before .before .before .pre .1 .most-cycles), ending-small (c .before .before .before .before .before .before .before .args .trace .ending) (c .before .before .before .before .before .before .before .args .trace .cycles) 1000 (omega (arith, c .before .before .before .before .before .before .before .pre .1 .most-cycles)) (c .before .before .before .before .before .before .before .pre .1 .loop))
 
 returns : tie.Need-returns
 returns c = told-refused _ (IsVerdictText (c .before .before .before .before .before .before .before .before .before .args .formula) (c .before .before .before .before .before .before .before .before .before .args .trace)) (know (c .before .before .before .before .before .before .before .meet .ensures .0) (c .before .before .before .before .before .outcome .given .1)) (c .before .before .deliver-refusal .ensures)

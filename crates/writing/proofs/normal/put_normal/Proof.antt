@@ -1,27 +1,16 @@
-use Rattle.text.specs.Written.{decimal, decimalIn}
-use Rattle.writing.specs.Normal.{writtenNormal}
-use Rattle.writing.proofs.Texts.{wrote-both}
+use Rattle.writing.specs.Normal.{rowsOf, writtenNormal}
+use Rattle.writing.proofs.Texts.{wrote-both, wrote-is, counts-front}
 use borrow.Author.Needs.{needs}
 use Rattle.writing.proofs.normal.put_normal.Statement.{statement}
 use Rattle.writing.proofs.normal.put_normal.Tie as tie
 
 returns : tie.Need-returns
-unfolding writtenNormal decimal decimalIn
-returns c = wrote-both (c .before .before .before .before .before .before .before .before .before .before .before .before .before .before .before .before .before .before .before .before .before .before .before .before .before .put .ensures) (wrote-both (c .before .before .before .before .before .before .before .before .before .before .before .before .before .before .before .before .before .before .before .before .put-number .ensures .0) (wrote-both (c .before .before .before .before .before .before .before .before .before .before .before .before .before .before .before .put2 .ensures) (wrote-both (c .before .before .before .before .before .before .before .before .before .before .put-number2 .ensures .0) (wrote-both (c .before .before .before .before .before .before .put-byte .ensures) (c .before .before .put-rows .ensures)))))
+unfolding writtenNormal
+returns c =
+    let rows = c .before .before in
+    let counts = rows .before .before .before .before in
+    let form = counts .before .before .before .args .form in
+    wrote-is (counts-front (form .signals) (form .rows) (rowsOf form)) (wrote-both (counts .put-counts .ensures .0) (rows .put-rows .ensures))
 
 pub put-normal-spec : {M : Type 1} → statement M
-put-normal-spec =
-    tie.close
-    (tie.spec
-    (λ c. search needs)
-    (λ c κs. search needs)
-    (λ c. search needs)
-    (λ c κs. search needs)
-    (λ c. search needs)
-    (λ c κs. search needs)
-    (λ c. search needs)
-    (λ c κs. search needs)
-    (λ c κs. search needs)
-    (λ c κs. search needs)
-    (λ c. search needs)
-    returns)
+put-normal-spec = tie.close (tie.spec (λ c κs. search needs) (λ c κs. search needs) (λ c. search needs) returns)

@@ -2,8 +2,8 @@ use native.Mathlib.Omega.{arith}
 use mathlib.Core.Path.{subst}
 use Rattle.take_file.specs.Valid.{Below}
 use borrow.Author.Needs.{needs}
-use Rattle.judge_text.proofs.verdict.put_ending.Statement.{statement}
-use Rattle.judge_text.proofs.verdict.put_ending.Tie as tie
+use Rattle.take_writer.proofs.ending.put_ending.Statement.{statement}
+use Rattle.take_writer.proofs.ending.put_ending.Tie as tie
 
 put-number-line-requires : tie.Need-put-number-line-requires
 put-number-line-requires c κs =

@@ -1,0 +1,4 @@
+pub mod Answers
+pub mod Cycles
+pub mod Lengths
+pub mod ReadBack
