@@ -8,17 +8,14 @@ use Rattle.tables.specs.declared.row.Formula.{Formula}
 use Rattle.tables.specs.declared.trace.Ending.{Ending}
 use Rattle.tables.specs.declared.trace.Ending.the-variants.{Open, Loop}
 use Rattle.tables.specs.declared.trace.Trace.{Trace}
-use Rattle.text.specs.Result.{outcomeOf}
-use Rattle.rule_file.specs.Rule.{parseRule}
-use Rattle.rule_file.specs.Written.{writtenRule}
-use Rattle.take_file.specs.Take.{parseTake}
-use Rattle.take_file.specs.Written.{writtenTake}
+use Rattle.rule_file.specs.Outcome.{ruleOutcome}
+use Rattle.take_file.specs.Outcome.{takeOutcome}
 use Rattle.meeting.specs.declared.Wanted.{Wanted}
 use Rattle.meeting.specs.declared.Wanted.the-variants.{Either, Looped, Unlooped}
 
--- "Files go rule, take": "A table handed to a service is checked as if written out as its file, with that file's refusals and lines"
+-- "Files go rule, take": the tables' own refusals
 abbrev pub ownOutcome : Formula → Trace → Outcome
-ownOutcome f t = andThen (outcomeOf 1 (parseRule (writtenRule f))) (outcomeOf 2 (parseTake (writtenTake t)))
+ownOutcome f t = andThen (ruleOutcome f) (takeOutcome t)
 
 -- 7: "Rule and take differ in `signals`."
 abbrev pub sevenOutcome : Formula → Trace → Outcome

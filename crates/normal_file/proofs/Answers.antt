@@ -9,10 +9,11 @@ use Rattle.normal_form.specs.declared.sign.Sign.{Sign}
 use Rattle.writing.specs.Answer.{Delivers}
 use Rattle.writing.specs.declared.answer.Bytes.{Bytes}
 use Rattle.writing.specs.declared.answer.Bytes.the-variants.{Refused as BytesRefused}
-use Rattle.normal_file.specs.Answer.{ownOutcome, output, normalAnswer, normalLeft}
+use Rattle.rule_file.specs.Outcome.{ruleOutcome}
+use Rattle.normal_file.specs.Answer.{output, normalAnswer, normalLeft}
 
 module _ (f : Formula) (s : Sign) (buf : List ℕ) where
-  module _ {r : Refusal} (e : ownOutcome f ≡ Refused r) where
+  module _ {r : Refusal} (e : ruleOutcome f ≡ Refused r) where
     pub refused-answer : BytesRefused r ≡ normalAnswer f s buf
     refused-answer = sym (rw e)
 
@@ -20,7 +21,7 @@ module _ (f : Formula) (s : Sign) (buf : List ℕ) where
     refused-left = sym (rw e)
 
   -- what is delivered to a formula in range is what the service answers and leaves
-  module _ (e : ownOutcome f ≡ Accepted) {after : List ℕ} {r : Bytes} (d : Delivers (output f s) buf after r) where
+  module _ (e : ruleOutcome f ≡ Accepted) {after : List ℕ} {r : Bytes} (d : Delivers (output f s) buf after r) where
     pub written-answer : r ≡ normalAnswer f s buf
     written-answer = d .answered ∙ sym (rw e)
 

@@ -19,7 +19,8 @@ use Rattle.normal_form.proofs.Ranges.{rows-double, form-normal, form-rows}
 use Rattle.writing.specs.declared.answer.Bytes.the-variants.{Count, Refused as BytesRefused}
 use Rattle.writing.specs.Normal.{writtenNormal}
 use Rattle.writing.proofs.Lengths.{text-most}
-use Rattle.normal_file.specs.Answer.{boundAnswer, boundOf, output, ownOutcome}
+use Rattle.rule_file.specs.Outcome.{ruleOutcome}
+use Rattle.normal_file.specs.Answer.{boundAnswer, boundOf, output}
 
 -- 29 bytes and 44 for each row of the rule are enough
 pub output-most : (f : Formula) (s : Sign) → InRange f → length (output f s) ≤ 29 + 44 * f .rows
@@ -33,8 +34,8 @@ output-most f s ok =
 
 -- THE BOUND SERVICE'S ANSWER IS NEVER LESS THAN THE OUTPUT'S LENGTH, whichever sign is written
 pub bound-enough : (f : Formula) (s : Sign) (n : ℕ) → boundAnswer f ≡ Count n → length (output f s) ≤ n
-bound-enough f s n answered = by (ownOutcome f) refl answered
+bound-enough f s n answered = by (ruleOutcome f) refl answered
   where
-    by : (o : Outcome) → ownOutcome f ≡ o → onOutcome o BytesRefused (Count (boundOf f)) ≡ Count n → length (output f s) ≤ n
+    by : (o : Outcome) → ruleOutcome f ≡ o → onOutcome o BytesRefused (Count (boundOf f)) ≡ Count n → length (output f s) ≤ n
     by Accepted e q = let same : boundOf f ≡ n = cc in omega (arith, output-most f s (checked f e))
     by (Refused why) e q = clash (cc)

@@ -1,3 +1,4 @@
 pub mod Rule
 pub mod Written
 pub mod Valid
+pub mod Outcome

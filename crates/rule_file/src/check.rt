@@ -7,8 +7,8 @@ ghost use Rattle.text.specs.Result.{outcomeOf};
 ghost use Rattle.text.specs.Written.{writtenBody};
 ghost use Rattle.rule_row.specs.Row.{inRange, rowValue};
 ghost use Rattle.rule_file.specs.Valid.{InRange};
-ghost use Rattle.rule_file.specs.Rule.{parseRule};
-ghost use Rattle.rule_file.specs.Written.{rowsOf, writtenRule};
+ghost use Rattle.rule_file.specs.Outcome.{ruleOutcome};
+ghost use Rattle.rule_file.specs.Written.{rowsOf};
 ghost use Rattle.rule_row.specs.Written.{writtenRow};
 use tables::kind;
 use tables::refusal::Outcome;
@@ -52,8 +52,8 @@ fn check_rows(formula: Formula) -> Outcome
 
 // A formula in memory: what reading it, written out as its file, would answer; and what an accepted one is known to be.
 pub fn check_formula(formula: Formula) -> Outcome
-    ensures { λ r. ⌜ r ≡ outcomeOf 1 (parseRule (writtenRule formula)) ⌝ }
-    ensures { λ r. ⌜ (r ≡ Outcome.Accepted → InRange formula) ⌝ }
+    ensures outcome { λ r. ⌜ r ≡ ruleOutcome formula ⌝ }
+    ensures range { λ r. ⌜ (r ≡ Outcome.Accepted → InRange formula) ⌝ }
 {
     let signals = formula.signals;
     let rows = formula.rows;

@@ -9,11 +9,12 @@ use Rattle.rule_file.specs.Written.{writtenRule}
 use Rattle.writing.specs.Answer.{Delivers}
 use Rattle.writing.specs.declared.answer.Bytes.{Bytes}
 use Rattle.writing.specs.declared.answer.Bytes.the-variants.{Refused as BytesRefused}
-use Rattle.rule_writer.specs.Answer.{ownOutcome, ruleWritten, ruleLeft}
+use Rattle.rule_file.specs.Outcome.{ruleOutcome}
+use Rattle.rule_writer.specs.Answer.{ruleWritten, ruleLeft}
 
 module _ (f : Formula) (buf : List ℕ) where
-  pub refused-both : {r : Refusal} → ownOutcome f ≡ Refused r → (BytesRefused r ≡ ruleWritten f buf) × (buf ≡ ruleLeft f buf)
+  pub refused-both : {r : Refusal} → ruleOutcome f ≡ Refused r → (BytesRefused r ≡ ruleWritten f buf) × (buf ≡ ruleLeft f buf)
   refused-both e = (sym (rw e), sym (rw e))
 
-  pub written-both : {after : List ℕ} {r : Bytes} → ownOutcome f ≡ Accepted → Delivers (writtenRule f) buf after r → (r ≡ ruleWritten f buf) × (after ≡ ruleLeft f buf)
+  pub written-both : {after : List ℕ} {r : Bytes} → ruleOutcome f ≡ Accepted → Delivers (writtenRule f) buf after r → (r ≡ ruleWritten f buf) × (after ≡ ruleLeft f buf)
   written-both e d = (d .answered ∙ sym (rw e), d .left ∙ sym (rw e))

@@ -16,7 +16,8 @@ use Rattle.rule_file.proofs.Rules.{text-read, checked}
 use Rattle.writing.proofs.Lengths.{text-most}
 use Rattle.writing.proofs.Answered.{answered-text}
 use Rattle.writing.specs.declared.answer.Bytes.the-variants.{Count}
-use Rattle.rule_writer.specs.Answer.{ownOutcome, ruleWritten, ruleLeft}
+use Rattle.rule_file.specs.Outcome.{ruleOutcome}
+use Rattle.rule_writer.specs.Answer.{ruleWritten, ruleLeft}
 
 module _ (f : Formula) (full : length (f .places) ≡ 64) where
   used : InRange f → length (rowsOf f) ≡ f .rows
@@ -31,7 +32,7 @@ module _ (f : Formula) (full : length (f .places) ≡ 64) where
 
   -- A FORMULA THAT PASSES THE CHECK IS READ BACK from what is written of it: the same, but for the places that it does not use, which
   -- then hold `true`
-  pub rule-back : ownOutcome f ≡ Accepted → parseRule (writtenRule f) ≡ accepted (formulaOf (f .signals) (f .rows) (rowsOf f))
+  pub rule-back : ruleOutcome f ≡ Accepted → parseRule (writtenRule f) ≡ accepted (formulaOf (f .signals) (f .rows) (rowsOf f))
   unfolding parseRule writtenRule
   rule-back e =
       let ok = checked f e in
@@ -40,8 +41,8 @@ module _ (f : Formula) (full : length (f .places) ≡ 64) where
 
   -- and so from the bytes that an answered call left
   pub left-back : (buf : List ℕ) (n : ℕ) → ruleWritten f buf ≡ Count n → parseRule (take n (ruleLeft f buf)) ≡ accepted (formulaOf (f .signals) (f .rows) (rowsOf f))
-  left-back buf n e = let w = answered-text (ownOutcome f) (writtenRule f) buf n e in ap parseRule (w .1) ∙ rule-back (w .0)
+  left-back buf n e = let w = answered-text (ruleOutcome f) (writtenRule f) buf n e in ap parseRule (w .1) ∙ rule-back (w .0)
 
   -- IT HAS AT MOST 29 BYTES AND 22 FOR EACH ROW
-  pub rule-short : ownOutcome f ≡ Accepted → length (writtenRule f) ≤ 29 + 22 * f .rows
+  pub rule-short : ruleOutcome f ≡ Accepted → length (writtenRule f) ≤ 29 + 22 * f .rows
   rule-short e = rule-most (checked f e)

@@ -12,9 +12,7 @@ use Rattle.tables.specs.declared.refusal.Outcome.the-variants.{Accepted}
 use Rattle.tables.specs.declared.row.Formula.{Formula}
 use Rattle.tables.specs.declared.row.NormalForm.{NormalForm}
 use Rattle.text.specs.Digits.{areDigits}
-use Rattle.text.specs.Result.{outcomeOf}
-use Rattle.rule_file.specs.Rule.{parseRule}
-use Rattle.rule_file.specs.Written.{writtenRule}
+use Rattle.rule_file.specs.Outcome.{ruleOutcome}
 use Rattle.meaning.specs.Satisfaction.{tableOf}
 use Rattle.normal_form.specs.declared.sign.Sign.the-variants.{Plain}
 use Rattle.normal_form.specs.Numbering.{normalForm}
@@ -74,7 +72,7 @@ stepOutput f pendings activators signals = formOutput (normalForm f Plain) pendi
 module _ (f : Formula) (pendings activators signals buf : List ℕ) where
   -- "After the rule's own refusals": "A table handed to a service is checked as if written out as its file"
   abbrev pub stepOutcome : Outcome
-  stepOutcome = andThen (outcomeOf 1 (parseRule (writtenRule f)))
+  stepOutcome = andThen (ruleOutcome f)
       (formOutcome (normalForm f Plain) pendings activators signals (length buf))
 
   -- the first refusal, or how many bytes were written: three for each row

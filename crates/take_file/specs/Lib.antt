@@ -2,3 +2,4 @@ pub mod Ending
 pub mod Take
 pub mod Written
 pub mod Valid
+pub mod Outcome

@@ -1,9 +1,7 @@
 // A trace that is handed over as a table, checked as if written out as its file.
 ghost use mathlib.Core.Path.{_≡_};
-ghost use Rattle.text.specs.Result.{outcomeOf};
-ghost use Rattle.take_file.specs.Take.{parseTake};
+ghost use Rattle.take_file.specs.Outcome.{takeOutcome};
 ghost use Rattle.take_file.specs.Valid.{Below, InRange, isBelow};
-ghost use Rattle.take_file.specs.Written.{writtenTake};
 use tables::refusal::Outcome;
 use tables::refusal::Reason;
 use tables::refusal::Refusal;
@@ -33,8 +31,8 @@ fn is_below(ending: Ending, cycles: u16) -> bool
 
 // A trace in memory: what reading it, written out as its file, would answer; and what an accepted one is known to be.
 pub fn check_trace(trace: Trace) -> Outcome
-    ensures { λ r. ⌜ r ≡ outcomeOf 2 (parseTake (writtenTake trace)) ⌝ }
-    ensures { λ r. ⌜ (r ≡ Outcome.Accepted → InRange trace) ⌝ }
+    ensures outcome { λ r. ⌜ r ≡ takeOutcome trace ⌝ }
+    ensures range { λ r. ⌜ (r ≡ Outcome.Accepted → InRange trace) ⌝ }
 {
     let signals = trace.signals;
     let cycles = trace.cycles;
