@@ -181,7 +181,42 @@ unfolding decimal
 number-written n h =
     sym (written-step n h (decLt n 10)) ∙ (digits-all (decimalIn 4 n) (decimal-length 4 n .1) ∙ written-digits 4 n (omega arith))
 
--- nothing else is read
+-- ---- a written number is read as itself, also one of more than five digits, where it is read at all
+
+large-digits : (f n : ℕ) → 10 ^ suc f ≤ n → digitsFrom 0 (decimalIn f n) ≡ Not
+unfolding decimalIn digitsFrom
+large-digits zero n h =
+    let l : 48 ≤ 48 + n = omega arith in
+    let u : 57 < 48 + n = omega arith in
+    rw (le-ltb (48 + n) 48 l, lt-ltb 57 (48 + n) u)
+large-digits (suc f) n h =
+    let p : 10 ^ suc (suc f) ≡ 10 ^ suc f * 10 = pow-suc 10 (suc f) in
+    let q : 10 ^ 1 ≤ 10 ^ suc f = pow-le-pow-right (omega arith) {i = 1} (omega arith) in
+    let t : 10 ^ suc f ≤ n / 10 = omega arith in
+    rw (decimal-large f n (omega arith), digits-append, large-digits f (n / 10) t)
+
+pub digits-own : (a n : ℕ) → digitsOf (decimal a) ≡ Is n → a ≡ n
+unfolding decimal
+digits-own a n e = by (decLt a 100000) (sym (digits-all (decimalIn 4 a) (decimal-length 4 a .1)) ∙ e)
+  where
+    by : Dec (a < 100000) → digitsFrom 0 (decimalIn 4 a) ≡ Is n → a ≡ n
+    by (yes l) d = let q : Is a ≡ Is n = sym (written-digits 4 a (omega arith)) ∙ d in cc
+    by (no g) d = let q : Not ≡ Is n = sym (large-digits 4 a (omega arith)) ∙ d in clash (cc)
+
+zero-case : (d n : ℕ) (x : Number) → Dec (d ≡ 48) → pick (eqb d 48) Not x ≡ Is n → (d ≡ 48 → ⊥) × (x ≡ Is n)
+zero-case d n x (yes q) e = clash (cc (rw (eq-eqb d 48 q) at e))
+zero-case d n x (no q) e = (q, rw (ne-eqb d 48 q) at e)
+
+number-digits : (s : List ℕ) (n : ℕ) → numberOf s ≡ Is n → digitsOf s ≡ Is n
+unfolding numberOf
+number-digits [] n e = clash (cc)
+number-digits (d ∷ []) n e = e
+number-digits (d ∷ x ∷ ds) n e = zero-case d n (digitsOf (d ∷ x ∷ ds)) (ℕ-discrete d 48) e .1
+
+pub number-own : (a n : ℕ) → numberOf (decimal a) ≡ Is n → a ≡ n
+number-own a n e = digits-own a n (number-digits (decimal a) n e)
+
+-- ---- nothing else is read
 digit-case : (d : ℕ) (x : Number) (n : ℕ) → Dec (d < 48) → Dec (57 < d) → pick (ltb d 48) Not (pick (ltb 57 d) Not x) ≡ Is n → (48 ≤ d) × (d ≤ 57) × (x ≡ Is n)
 digit-case d x n (yes l) r e = clash (cc (rw (lt-ltb d 48 l) at e))
 digit-case d x n (no l) (yes r) e = let k : 48 ≤ d = omega arith in clash (cc (rw (le-ltb d 48 k, lt-ltb 57 d r) at e))
@@ -259,10 +294,6 @@ digits-inv : (s : List ℕ) (n : ℕ) → Dec (5 < length s) → digitsOf s ≡ 
 unfolding digitsOf
 digits-inv s n (yes l) e = clash (cc (rw (lt-ltb 5 (length s) l) at e))
 digits-inv s n (no g) e = let l : length s ≤ 5 = omega arith in (l, rw (le-ltb 5 (length s) l) at e)
-
-zero-case : (d n : ℕ) (x : Number) → Dec (d ≡ 48) → pick (eqb d 48) Not x ≡ Is n → (d ≡ 48 → ⊥) × (x ≡ Is n)
-zero-case d n x (yes q) e = clash (cc (rw (eq-eqb d 48 q) at e))
-zero-case d n x (no q) e = (q, rw (ne-eqb d 48 q) at e)
 
 pub number-read : (s : List ℕ) (n : ℕ) → numberOf s ≡ Is n → s ≡ decimal n
 unfolding numberOf decimal
