@@ -1,21 +1,19 @@
 -- A row and its written form. Assumes nothing.
-use mathlib.Core.Path.{_≡_, refl, sym, ap, _∙_, subst}
+use mathlib.Core.Path.{_≡_, refl, sym, ap, _∙_}
 use mathlib.Core.Bool.{Bool, true, false}
 use mathlib.Core.List.{List, [], _∷_, _++_, append-nil}
-use Prim.Native.Nat.{ℕ, zero, suc, _+_, _≤_, _<_}
+use Prim.Native.Nat.{ℕ, _≤_, _<_}
 use native.Mathlib.Omega.{arith}
 use lib.Dec.{eqb}
-use lib.ListN.{take, drop}
 use borrow.Author.Tests.{eqb-true}
 use Rattle.tables.specs.Choice.{pick}
 use Rattle.tables.specs.Bytes.{sameBytes}
-use Rattle.tables.specs.Kind.{kinds, kindCount, kindAt, noKind, wordOf, placeOf, withNumbers, numbersIn, firstNumber, secondNumber}
-use Rattle.tables.specs.declared.kind.Kind.{Kind}
+use Rattle.tables.specs.Kind.{kinds, kindCount, kindAt, wordOf, placeOf, withNumbers, numbersIn, firstNumber, secondNumber}
 use Rattle.tables.specs.declared.refusal.Reason.the-variants.{BadReference}
 use Rattle.tables.specs.declared.row.Row.{Row}
 use Rattle.tables.specs.declared.row.Row.the-variants.{Constant, Signal, Unary, Binary}
-use Rattle.tables.proofs.KindTable.{below, place-of-kind, kind-of-row, numbers-again, numbers-own, numbers-count, numbers-place}
-use Rattle.text.specs.Search.{firstWhere, further, firstOf}
+use Rattle.tables.proofs.KindTable.{below, kind-of-row, numbers-again, numbers-own, numbers-count}
+use Rattle.text.specs.Search.{firstWhere, further}
 use Rattle.text.specs.Number.{numberOf}
 use Rattle.text.specs.Result.{Parsed, onParsed}
 use Rattle.text.specs.Result.Parsed.{good, bad}
@@ -24,9 +22,8 @@ use Rattle.text.specs.declared.search.Found.{Found}
 use Rattle.text.specs.declared.search.Found.the-variants.{At, Nothing}
 use Rattle.text.specs.declared.number.Number.the-variants.{Is}
 use Rattle.tables.proofs.Choices.{clash, each-pick}
-use Rattle.text.proofs.Searching.{hit, each-found, same-eq}
 use Rattle.text.proofs.Numbers.{number-written, number-own, each-number}
-use Rattle.text.proofs.Lines.{Free, free-append, first-at, first-free, cut-front, cut-behind, cut-found, no-digit-below, free-decimal}
+use Rattle.text.proofs.Lines.{Free, free-append, first-at, first-free, cut-front, cut-behind, no-digit-below, free-decimal}
 use Rattle.text.proofs.Headers.{lacks, free, free-below}
 use Rattle.rule_row.specs.Row.{kindNamed, formOf, rowForm, inRange, rowValue}
 use Rattle.rule_row.specs.Written.{numbersText, writtenRow}

@@ -14,7 +14,7 @@ use Rattle.text.specs.Result.{Parsed, Next, Result, onParsed, mapResult,
 use Rattle.text.specs.Result.Parsed.{good, bad}
 use Rattle.text.specs.Result.Result.{accepted, refused}
 use Rattle.text.specs.Body.{bodyLines, EachAt}
-use Rattle.text.specs.Written.{decimal, writtenLine, writtenBody}
+use Rattle.text.specs.Written.{decimal, writtenBody}
 use Rattle.tables.proofs.Choices.{clash, each-pick}
 use Rattle.text.proofs.Lines.{Free, free-decimal, no-digit-below, no-digit-above, line-step, LineOf, line-read, numbered-written}
 

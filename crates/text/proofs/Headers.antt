@@ -23,7 +23,8 @@ use Rattle.text.specs.declared.line.Counted.the-variants.{Count, Wrong}
 use Rattle.text.specs.declared.number.Number.the-variants.{Is}
 use Rattle.tables.proofs.Choices.{clash}
 use Rattle.text.proofs.Searching.{same-refl, same-eq}
-use Rattle.text.proofs.Numbers.{number-written, number-own, decimal-small, decimal-large, decimal-length}
+use Rattle.text.proofs.Numbers.{number-written, number-own}
+use Rattle.text.proofs.Laws.{decimal-small, decimal-large}
 use Rattle.text.proofs.Lines.{Free, free-append, line-step, line-read}
 use Rattle.text.proofs.Counts.{value-below, value-above, count-written, count-read}
 

@@ -9,7 +9,7 @@ use native.Mathlib.Numerals.{add-one}
 use native.Mathlib.Omega.{arith}
 use native.Mathlib.Decide.{decLt, ℕ-discrete}
 use lib.Dec.{ltb, eqb}
-use lib.ListN.{length, getD, drop, length-append}
+use lib.ListN.{length, getD, drop}
 use lib.Seq.{drop-cons, drop-length}
 use borrow.Author.Tests.{lt-ltb, le-ltb, eq-eqb, ne-eqb}
 use Rattle.tables.specs.Choice.{pick}
@@ -18,6 +18,7 @@ use Rattle.text.specs.Written.{decimalIn, decimal}
 use Rattle.text.specs.declared.number.Number.{Number}
 use Rattle.text.specs.declared.number.Number.the-variants.{Is, Not}
 use Rattle.tables.proofs.Choices.{clash}
+use Rattle.text.proofs.Laws.{decimal-small, decimal-large, decimal-length, length-step}
 
 -- the digits of s, at most five, are read up to i, with the value v
 pub record DigitsAt (s : List ℕ) (v i : ℕ) : Type 0 where
@@ -131,26 +132,7 @@ unfolding decimalIn
 written-digits zero n h = digit-one 0 n (omega arith) ∙ ap Is (omega arith)
 written-digits (suc f) n h = digits-step f n (written-digits f (n / 10) (tenth f n h)) (decLt n 10)
 
--- its length and its first digit
-pub decimal-small : (f n : ℕ) → n < 10 → decimalIn f n ≡ (48 + n) ∷ []
-unfolding decimalIn
-decimal-small zero n h = refl
-decimal-small (suc f) n h = rw (lt-ltb n 10 h)
-
-pub decimal-large : (f n : ℕ) → 10 ≤ n → decimalIn (suc f) n ≡ decimalIn f (n / 10) ++ ((48 + n % 10) ∷ [])
-unfolding decimalIn
-decimal-large f n h = rw (le-ltb n 10 h)
-
-length-step : (f n : ℕ) → (1 ≤ length (decimalIn f (n / 10))) × (length (decimalIn f (n / 10)) ≤ suc f) → Dec (n < 10) → (1 ≤ length (decimalIn (suc f) n)) × (length (decimalIn (suc f) n) ≤ suc (suc f)) × (10 ≤ n → 2 ≤ length (decimalIn (suc f) n))
-length-step f n ih (yes l) = rw (decimal-small (suc f) n l) (omega arith)
-length-step f n ih (no g) =
-    let l : 10 ≤ n = omega arith in
-    rw (decimal-large f n l) (simp length-append (omega (arith, ih .0, ih .1)))
-
-pub decimal-length : (f n : ℕ) → (1 ≤ length (decimalIn f n)) × (length (decimalIn f n) ≤ suc f)
-decimal-length zero n = unfold decimalIn in omega arith
-decimal-length (suc f) n = let w = length-step f n (decimal-length f (n / 10)) (decLt n 10) in (w .0, w .1)
-
+-- its first digit
 head-append : (s t : List ℕ) → 1 ≤ length s → getD (s ++ t) 0 0 ≡ getD s 0 0
 head-append [] t h = absurd (omega arith)
 head-append (x ∷ xs) t h = refl
