@@ -26,6 +26,7 @@ use Rattle.writing.specs.Normal.{writtenNormal}
 use Rattle.writing.specs.Refusal.{refusalText}
 use Rattle.judge_text.specs.Text.{verdictText}
 use Rattle.sheet_file.specs.Sheet.{parseSheet}
+use Rattle.sheet_file.specs.Written.{writtenSheet}
 use Rattle.checking.proofs.ByReport.{report-from, reported, survey-from, surveyed, computedFinding}
 use Rattle.cases.specs.Case.{Case, Each, Each.none, Each.first, Says}
 use Rattle.cases.specs.Table.{cases}
@@ -37,7 +38,7 @@ a also b = first a b
 
 -- row by row; of a verdict: the signals agree, the ending is what the service needs, and the bits give the verdict
 computed : Each Computed cases
-unfolding parseRule keyedLine cutOf firstWhere further sameBytes countForm numberOf digitsOf digitsFrom bodyLines isNumbered rowValue rowForm formOf kindNamed kinds kindAt dualOf tabulateFrom writtenRule writtenBody decimal decimalIn markedDown reach listing normalListing normalForm writtenNormal refusalText parseTake areDigits digitsForm endingValue bitAt wordFrom laneOf position approximant bitsWithin bitsOf verdictText parseSheet report-from reported survey-from surveyed computedFinding
+unfolding parseRule keyedLine cutOf firstWhere further sameBytes countForm numberOf digitsOf digitsFrom bodyLines isNumbered rowValue rowForm formOf kindNamed kinds kindAt dualOf tabulateFrom writtenRule writtenBody decimal decimalIn markedDown reach listing normalListing normalForm writtenNormal refusalText parseTake areDigits digitsForm endingValue bitAt wordFrom laneOf position approximant bitsWithin bitsOf verdictText parseSheet writtenSheet report-from reported survey-from surveyed computedFinding
 computed =
     refl
     also (λ buf. (refl, refl))
@@ -63,7 +64,7 @@ computed =
     also (refl, refl)
     also refl
     also refl
-    also record { signals = refl; rows = refl; cycles = refl; holds = refl; digits = refl }
+    also record { signals = refl; rows = refl; cycles = refl; holds = refl; digits = refl; written = refl }
     also record { signals = refl; rows = refl; cycles = refl; found = refl }
     also record { signals = refl; rows = refl; cycles = refl; found = refl }
     also record { signals = refl; rows = refl; cycles = refl; found = refl }

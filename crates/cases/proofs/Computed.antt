@@ -12,11 +12,11 @@ use Rattle.tables.specs.declared.trace.Trace.{Trace}
 use Rattle.text.specs.Result.{Result}
 use Rattle.text.specs.Result.Result.{accepted, refused}
 use Rattle.rule_file.specs.Rule.{parseRule}
-use Rattle.rule_file.proofs.Rules.{rule-read}
+use Rattle.rule_file.proofs.Rules.{rule-valid}
 use Rattle.take_file.specs.Take.{parseTake}
-use Rattle.take_file.proofs.Takes.{take-read}
+use Rattle.take_file.proofs.Takes.{take-valid}
 use Rattle.sheet_file.specs.Sheet.{parseSheet}
-use Rattle.sheet_file.proofs.Sheets.{sheet-read}
+use Rattle.sheet_file.proofs.Sheets.{sheet-valid}
 use Rattle.normal_form.specs.declared.sign.Sign.the-variants.{Plain}
 use Rattle.normal_form.specs.Numbering.{normalForm}
 use Rattle.judging.specs.declared.verdict.Verdict.{Verdict}
@@ -60,32 +60,38 @@ Computed (bound rule n) = Says (bound rule n)
 Computed (looped rule take v) = Judges Looped v (parseRule (fileBytes rule)) (parseTake (fileBytes take))
 Computed (opened rule take v) = Judges Unlooped v (parseRule (fileBytes rule)) (parseTake (fileBytes take))
 Computed (prints rule take text) = PrintsText (fileBytes text) (parseRule (fileBytes rule)) (parseTake (fileBytes take))
-Computed (makes rule take sheet) = OnThree (parseRule (fileBytes rule)) (parseTake (fileBytes take)) (parseSheet (fileBytes sheet)) MakesTo
+Computed (makes rule take sheet) = OnThree (parseRule (fileBytes rule)) (parseTake (fileBytes take)) (parseSheet (fileBytes sheet)) (MakesTo (fileBytes sheet))
 Computed (checks rule take sheet x) = OnThree (parseRule (fileBytes rule)) (parseTake (fileBytes take)) (parseSheet (fileBytes sheet)) (λ f t a. ChecksTo f t a x)
 
 module _ (rule take : File) where
-  judged : (wanted : Wanted) (v : Verdict) (p : Result Formula) (q : Result Trace) → parseRule (fileBytes rule) ≡ p → parseTake (fileBytes take) ≡ q → Judges wanted v p q → Answered (pairOutcome wanted) rule take (Judged v)
-  judged wanted v (accepted f) (accepted t) fr tr (same, e, c) = rw (fr, tr, ← c) (answered f t (rule-read (fileBytes rule) f fr .1) (take-read (fileBytes take) t tr .1) same wanted e)
+  judged : (wanted : Wanted) (v : Verdict) (p : Result Formula) (q : Result Trace) → parseRule (fileBytes rule) ≡ p → parseTake (fileBytes take) ≡ q
+      → Judges wanted v p q → Answered (pairOutcome wanted) rule take (Judged v)
+  judged wanted v (accepted f) (accepted t) fr tr (same, e, c) =
+      rw (fr, tr, ← c) (answered f t (rule-valid (fileBytes rule) f fr) (take-valid (fileBytes take) t tr) same wanted e)
   judged wanted v (accepted f) (refused e n) fr tr x = absurd x
   judged wanted v (refused e n) q fr tr x = absurd x
 
-  printed : (text : List ℕ) (p : Result Formula) (q : Result Trace) → parseRule (fileBytes rule) ≡ p → parseTake (fileBytes take) ≡ q → PrintsText text p q → IsText p q text
+  printed : (text : List ℕ) (p : Result Formula) (q : Result Trace) → parseRule (fileBytes rule) ≡ p → parseTake (fileBytes take) ≡ q
+      → PrintsText text p q → IsText p q text
   printed text (accepted f) (accepted t) fr tr (same, e) =
-      rw (sym (agree (f .signals) (t .signals) same)) (computedVerdict f t, verdict-computed f t (rule-read (fileBytes rule) f fr .1 .in-range) (take-read (fileBytes take) t tr .1 .range), sym e)
+      let told = verdict-computed f t (rule-valid (fileBytes rule) f fr .in-range) (take-valid (fileBytes take) t tr .range) in
+      rw (sym (agree (f .signals) (t .signals) same)) (computedVerdict f t, told, sym e)
   printed text (accepted f) (refused e n) fr tr x = sym x
   printed text (refused e n) q fr tr x = sym x
 
 module _ (rule take sheet : File) where
-  made : (p : Result Formula) (q : Result Trace) (r : Result Activation) → parseRule (fileBytes rule) ≡ p → parseTake (fileBytes take) ≡ q → parseSheet (fileBytes sheet) ≡ r → OnThree p q r MakesTo → Says (makes rule take sheet)
+  made : (p : Result Formula) (q : Result Trace) (r : Result Activation) → parseRule (fileBytes rule) ≡ p → parseTake (fileBytes take) ≡ q
+      → parseSheet (fileBytes sheet) ≡ r → OnThree p q r (MakesTo (fileBytes sheet)) → Says (makes rule take sheet)
   made (accepted f) (accepted t) (accepted a) fr tr sr c =
-      let written = sheet-read (fileBytes sheet) a sr in
-      rw (fr, tr) (λ before. rw (written .0) (make-computed f t a (rule-read (fileBytes rule) f fr .1) (take-read (fileBytes take) t tr .1) (written .1) c before))
+      rw (fr, tr) (make-computed f t a (rule-valid (fileBytes rule) f fr) (take-valid (fileBytes take) t tr) (sheet-valid (fileBytes sheet) a sr) c)
   made (accepted f) (accepted t) (refused e n) fr tr sr c = absurd c
   made (accepted f) (refused e n) r fr tr sr c = absurd c
   made (refused e n) q r fr tr sr c = absurd c
 
-  checked : (p : Result Formula) (q : Result Trace) (r : Result Activation) (x : Finding) → parseRule (fileBytes rule) ≡ p → parseTake (fileBytes take) ≡ q → parseSheet (fileBytes sheet) ≡ r → OnThree p q r (λ f t a. ChecksTo f t a x) → Says (checks rule take sheet x)
-  checked (accepted f) (accepted t) (accepted a) x fr tr sr c = rw (fr, tr, sr) (check-computed f t a (rule-read (fileBytes rule) f fr .1) (take-read (fileBytes take) t tr .1) (sheet-read (fileBytes sheet) a sr .1) x c)
+  checked : (p : Result Formula) (q : Result Trace) (r : Result Activation) (x : Finding) → parseRule (fileBytes rule) ≡ p → parseTake (fileBytes take) ≡ q
+      → parseSheet (fileBytes sheet) ≡ r → OnThree p q r (λ f t a. ChecksTo f t a x) → Says (checks rule take sheet x)
+  checked (accepted f) (accepted t) (accepted a) x fr tr sr c =
+      rw (fr, tr, sr) (check-computed f t a (rule-valid (fileBytes rule) f fr) (take-valid (fileBytes take) t tr) (sheet-valid (fileBytes sheet) a sr) x c)
   checked (accepted f) (accepted t) (refused e n) x fr tr sr c = absurd c
   checked (accepted f) (refused e n) r x fr tr sr c = absurd c
   checked (refused e n) q r x fr tr sr c = absurd c

@@ -108,19 +108,21 @@ lassoBit g t l k c = bitsOf everyCycle (unrolled t l) (λ i. (t .cycles - i) + (
 abbrev pub sheetIs : NormalForm → Trace → Activation → ℕ → Bool
 sheetIs g t a l = allBelow (g .rows) (λ k. allBelow (t .cycles) (λ c. sameBit (activatorAt a c (suc k)) (lassoBit g t l (suc k) c)))
 
--- the signals and the sizes agree, the take is looped and holds, and the sheet's digits are what is computed
+-- the sheet's digits are what is computed, on a looped take
 abbrev pub DigitsIn : NormalForm → Trace → Activation → Ending → Type 0
 DigitsIn g t a Open = ⊥
 DigitsIn g t a (Loop l) = sheetIs g t a l ≡ true
 
-pub record MakesTo (f : Formula) (t : Trace) (a : Activation) : Type 0 where
+-- the signals and the sizes agree, the take is looped and holds, and the text is that of the sheet with the computed digits
+pub record MakesTo (text : List ℕ) (f : Formula) (t : Trace) (a : Activation) : Type 0 where
   pub signals : f .signals ≡ t .signals
   pub rows : a .rows ≡ normalForm f Plain .rows
   pub cycles : a .cycles ≡ t .cycles
   pub holds : computedVerdict f t ≡ Holds
   pub digits : DigitsIn (normalForm f Plain) t a (t .ending)
+  pub written : text ≡ writtenSheet a
 
-module _ (f : Formula) (t : Trace) (a : Activation) (rule : FormulaValid f) (take : TraceValid t) (valid : SheetValid a) (c : MakesTo f t a) where
+module _ {text : List ℕ} (f : Formula) (t : Trace) (a : Activation) (rule : FormulaValid f) (take : TraceValid t) (valid : SheetValid a) (c : MakesTo text f t a) where
   abbrev g : NormalForm
   g = normalForm f Plain
 
@@ -152,7 +154,7 @@ module _ (f : Formula) (t : Trace) (a : Activation) (rule : FormulaValid f) (tak
       by Open s = absurd s
       by (Loop l) s = s
 
-  pub make-computed : (before : List ℕ) → Makes f t before (overlaid (writtenSheet a) before) (answerOf (writtenAnswer (writtenSheet a) before))
+  pub make-computed : (before : List ℕ) → Makes f t before (overlaid text before) (answerOf (writtenAnswer text before))
   make-computed before =
       let tables : pairOutcome Either f t ≡ Accepted = rw (rule-written f rule, take-written t take, sym (agree (f .signals) (t .signals) (c .signals))) refl in
-      rw tables (sheet satisfied a made refl refl)
+      rw (c .written, tables) (sheet satisfied a made refl refl)

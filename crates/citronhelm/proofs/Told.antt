@@ -18,9 +18,9 @@ use Rattle.tables.proofs.Choices.{clash}
 use Rattle.text.specs.Result.Result.{accepted}
 use Rattle.rule_file.specs.Rule.{parseRule}
 use Rattle.rule_file.specs.Valid.{InRange as FormulaInRange}
-use Rattle.rule_file.proofs.Rules.{rule-read}
+use Rattle.rule_file.proofs.Rules.{rule-valid}
 use Rattle.take_file.specs.Take.{parseTake}
-use Rattle.take_file.proofs.Takes.{take-read}
+use Rattle.take_file.proofs.Takes.{take-valid}
 use Rattle.sheet_file.specs.Written.{writtenSheet}
 use Rattle.normal_form.specs.declared.sign.Sign.{Sign}
 use Rattle.normal_form.specs.declared.sign.Sign.the-variants.{Plain}
@@ -50,7 +50,7 @@ written-length out buf n e = by (leb (length out) (length buf)) e
 -- what was read is in range
 module _ (rule : List ℕ) (f : Formula) (read : parseRule rule ≡ accepted f) where
   fine : FormulaInRange f
-  fine = rule-read rule f read .1 .in-range
+  fine = rule-valid rule f read .in-range
 
   -- the normal form, and the bound on it
   pub normal-told : (s : Sign) (buf : List ℕ) (n : ℕ) → writtenAnswer (output f s) buf ≡ Count n → n ≤ 2845
@@ -71,7 +71,7 @@ module _ (rule : List ℕ) (f : Formula) (read : parseRule rule ≡ accepted f) 
   module _ (take : List ℕ) (t : Trace) (taken : parseTake take ≡ accepted t) (before after : List ℕ) (n : ℕ) where
     sheet-written : Answers f t before after (Written n) → (0 < n) × (n ≤ 33567)
     sheet-written (sheet s a made answered left) =
-        let range = take-read take t taken .1 .range in
+        let range = take-valid take t taken .range in
         let size = sheet-enough a (made .places) (omega (arith, made .rows, form-normal f Plain fine .most-rows)) (omega (arith, made .cycles, range .most-cycles)) in
         let same : n ≡ length (writtenSheet a) = by (leb (length (writtenSheet a)) (length before)) a answered in
         (omega (arith, same, sheet-some a), omega (arith, same, size))

@@ -16,11 +16,11 @@ use Rattle.text.proofs.Answered.{refused-table}
 use Rattle.rule_file.specs.Rule.{parseRule, ruleAnswer}
 use Rattle.rule_file.specs.declared.rule.RuleAnswer.{RuleAnswer}
 use Rattle.rule_file.specs.Valid.{InRange as FormulaInRange}
-use Rattle.rule_file.proofs.Rules.{rule-outcome-line, rule-read}
+use Rattle.rule_file.proofs.Rules.{rule-outcome-line, rule-valid}
 use Rattle.take_file.specs.Take.{parseTake, takeAnswer}
 use Rattle.take_file.specs.declared.take.TakeAnswer.{TakeAnswer}
 use Rattle.take_file.specs.Valid.{InRange as TraceInRange}
-use Rattle.take_file.proofs.Takes.{take-outcome-line, take-read}
+use Rattle.take_file.proofs.Takes.{take-outcome-line, take-valid}
 use Rattle.rule_and_take.specs.declared.Pair.{Pair}
 use Rattle.rule_and_take.specs.File.{OnFile, OnPair, pairRead, joined, WasRead}
 
@@ -70,7 +70,10 @@ module _ (p : Result Formula) (q : Result Trace) (a : Pair) (e : a ≡ pairRead 
 -- by the bytes
 module _ (rule take : List ℕ) (a : Pair) (e : a ≡ pairRead (parseRule rule) (parseTake take)) where
   read-range : a .outcome ≡ Accepted → FormulaInRange (a .formula) × TraceInRange (a .trace)
-  read-range h = (rule-read rule _ (rule-is-read (parseRule rule) (parseTake take) a e h) .1 .in-range, take-read take _ (take-is-read (parseRule rule) (parseTake take) a e h) .1 .range)
+  read-range h =
+      let p = parseRule rule in
+      let q = parseTake take in
+      (rule-valid rule _ (rule-is-read p q a e h) .in-range, take-valid take _ (take-is-read p q a e h) .range)
 
   read-line : (x : Refusal) → a .outcome ≡ Refused x → x .line ≤ 261
   read-line x h = by (outcomeOf 1 (parseRule rule)) refl (said (parseRule rule) (parseTake take) a e h)

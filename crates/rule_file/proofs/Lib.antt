@@ -1,3 +1,4 @@
 pub mod RowLoop
 pub mod CheckLoop
 pub mod Rules
+pub mod Exact

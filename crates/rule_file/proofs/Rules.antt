@@ -1,5 +1,5 @@
--- Rule files and their written form: a formula that is written is read back, and only the written form of a formula is read.
--- Assumes nothing.
+-- Rule files and the formulas they hold: a formula that is written is read back, and only valid formulas are read. (That they are read
+-- from their written form alone: Exact.) Assumes nothing.
 use mathlib.Core.Path.{_≡_, refl, sym, ap, _∙_, subst}
 use mathlib.Core.Bool.{true}
 use mathlib.Core.List.{List, [], _∷_, map}
@@ -30,8 +30,8 @@ use Rattle.text.specs.Result.Result.{accepted, refused}
 use Rattle.text.specs.Written.{decimal, writtenLine, writtenBody}
 use Rattle.tables.proofs.Choices.{clash}
 use Rattle.text.proofs.Lines.{Free}
-use Rattle.text.proofs.Bodies.{BodyOf, body-starts, body-surplus, body-line, body-written, body-read}
-use Rattle.text.proofs.Headers.{count-then, count-in, count-below, count-above, count-range, map-accepted, test-accepted, outcome-accepted, parsed-accepted}
+use Rattle.text.proofs.Bodies.{body-starts, body-surplus, body-line, body-written, body-valid}
+use Rattle.text.proofs.Headers.{CountThen, count-then, count-in, count-below, count-above, count-range, map-accepted, test-accepted, outcome-accepted, parsed-accepted}
 use Rattle.text.proofs.Laws.{decimal-short, count-short, body-short}
 use Rattle.text.proofs.Answered.{accepted-table}
 use Rattle.text.proofs.RefusedLines.{RefusedBy, map-by, test-by, count-by, body-by, refused-line, outcome-line}
@@ -41,7 +41,7 @@ use Rattle.rule_file.specs.declared.rule.RuleAnswer.{RuleAnswer}
 use Rattle.rule_file.specs.Written.{rowsOf, ruleText, writtenRule}
 use Rattle.rule_row.specs.Written.{numbersText, writtenRow}
 use Rattle.rule_file.specs.Valid.{InRange, Valid}
-use Rattle.rule_row.proofs.WrittenRows.{Small, row-free, range-small, value-written, value-read, any-row-free, any-value-read}
+use Rattle.rule_row.proofs.WrittenRows.{Small, row-free, range-small, value-written, value-range, any-row-free, any-value-read}
 
 -- ---- a written rule is never too long
 
@@ -68,13 +68,13 @@ pub used-most : (f : Formula) → length (f .places) ≡ 64 → length (rowsOf f
 used-most f e = rw (length-map, length-take) (omega arith)
 
 -- ---- reading a written rule, line by line: how it goes on behind each line
-abbrev behindRows : ℕ → ℕ → List ℕ → Result Formula
+abbrev pub behindRows : ℕ → ℕ → List ℕ → Result Formula
 behindRows signals rows body = mapResult (formulaOf signals rows) (bodyLines 114 (rowValue signals) rows 1 4 body)
 
-abbrev behindSignals : ℕ → List ℕ → Result Formula
+abbrev pub behindSignals : ℕ → List ℕ → Result Formula
 behindSignals signals rest = onLine 3 (keyedLine (isKey (bytes "rows")) (countForm 1 64 CountOutOfRange)) rest (behindRows signals)
 
-abbrev behindFormat : ℕ → List ℕ → Result Formula
+abbrev pub behindFormat : ℕ → List ℕ → Result Formula
 behindFormat one rest = onLine 2 (keyedLine (isKey (bytes "signals")) (countForm 1 32 CountOutOfRange)) rest behindSignals
 
 module _ (f : Formula) (short : length (rowsOf f) ≤ 64) (hs : f .signals < 100000) (hm : f .rows < 100000) where
@@ -166,44 +166,47 @@ rows-in-places (r ∷ rs) = ap (_∷_ r) (rows-in-places rs)
 rows-of : (s m : ℕ) (rs : List Row) → length rs ≡ m → m ≤ 64 → rowsOf (formulaOf s m rs) ≡ rs
 rows-of s m rs e h = rw (← e) (rw (take-placed 64 inPlace unused rs (omega arith)) (rows-in-places rs))
 
--- the lines one behind the other
-joined : (file after-format after-signals body : List ℕ) (n s m : ℕ) (rs : List Row) → n ≡ 1 → length rs ≡ m → m ≤ 64
-    → file ≡ writtenLine (bytes "format") (decimal n) after-format
-    → after-format ≡ writtenLine (bytes "signals") (decimal s) after-signals
-    → after-signals ≡ writtenLine (bytes "rows") (decimal m) body
-    → body ≡ writtenBody 114 writtenRow 1 rs
-    → file ≡ writtenRule (formulaOf s m rs)
-unfolding writtenRule
-joined file after-format after-signals body n s m rs one size most a b c d =
-    a ∙ rw (one, b, c, d, rows-of s m rs size most)
+-- the lines of a file that is read, and what they hold
+pub record LinesOf (file : List ℕ) (f : Formula) : Type 0 where
+  pub format : CountThen (bytes "format") 1 1 WrongFormat 1 behindFormat file f
+  pub signals : CountThen (bytes "signals") 1 32 CountOutOfRange 2 behindSignals (format .rest) f
+  pub rows : CountThen (bytes "rows") 1 64 CountOutOfRange 3 (behindRows (signals .count)) (signals .rest) f
+  pub held : List Row
+  pub body : bodyLines 114 (rowValue (signals .count)) (rows .count) 1 4 (rows .rest) ≡ accepted held
+  pub table : formulaOf (signals .count) (rows .count) held ≡ f
 
--- ONLY THE WRITTEN FORM OF A FORMULA IS READ
-pub rule-read : (file : List ℕ) (f : Formula) → parseRule file ≡ accepted f → (file ≡ writtenRule f) × Valid f
+pub rule-lines : (file : List ℕ) (f : Formula) → parseRule file ≡ accepted f → LinesOf file f
 unfolding parseRule
-rule-read file f e =
+rule-lines file f e =
     let whole : Result Formula = onLine 1 (keyedLine (isKey (bytes "format")) (countForm 1 1 WrongFormat)) file behindFormat in
     let a = count-then (bytes "format") 1 1 WrongFormat 1 behindFormat file f (test-accepted (ltb 65536 (length file)) TooLong 0 whole f e) in
     let b = count-then (bytes "signals") 1 32 CountOutOfRange 2 behindSignals (a .rest) f (a .goes) in
     let c = count-then (bytes "rows") 1 64 CountOutOfRange 3 (behindRows (b .count)) (b .rest) f (b .goes) in
-    let s : ℕ = b .count in
-    let m : ℕ = c .count in
-    let d = map-accepted (formulaOf s m) (bodyLines 114 (rowValue s) m 1 4 (c .rest)) f (c .goes) in
-    let rs : List Row = d .0 in
-    let y : BodyOf 114 writtenRow (RowOk s) m 1 (c .rest) rs = body-read 114 (omega arith) (rowValue s) writtenRow (RowOk s) (value-read s) m 1 4 (c .rest) rs (d .1) in
-    let t : rowsOf (formulaOf s m rs) ≡ rs = rows-of s m rs (y .size) (c .most) in
-    let one : a .count ≡ 1 = omega (arith, a .least, a .most) in
-    let w : file ≡ writtenRule (formulaOf s m rs) = joined file (a .rest) (b .rest) (c .rest) (a .count) s m rs one (y .size) (c .most) (a .whole) (b .whole) (c .whole) (y .whole) in
-    subst (λ (x : Formula). (file ≡ writtenRule x) × Valid x) (d .2) (
-      w,
-      record {
-        in-range = record { some-signals = b .least; most-signals = b .most; some-rows = c .least; most-rows = c .most; rows-in-range = rw t (y .ok) };
-        unused-true = rw t;
-      },
-    )
+    let d = map-accepted (formulaOf (b .count) (c .count)) (bodyLines 114 (rowValue (b .count)) (c .count) 1 4 (c .rest)) f (c .goes) in
+    record { format = a; signals = b; rows = c; held = d .0; body = d .1; table = d .2 }
 
--- so that no two files yield one formula
-pub rule-once : (a b : List ℕ) (f : Formula) → parseRule a ≡ accepted f → parseRule b ≡ accepted f → a ≡ b
-rule-once a b f p q = rule-read a f p .0 ∙ sym (rule-read b f q .0)
+module _ (file : List ℕ) (f : Formula) (l : LinesOf file f) where
+  -- as many rows as the file says, each in range
+  held-valid : (length (l .held) ≡ l .rows .count) × EachAt (RowOk (l .signals .count)) 1 (l .held)
+  held-valid =
+      let s : ℕ = l .signals .count in
+      body-valid 114 (rowValue s) (RowOk s) (value-range s) (l .rows .count) 1 4 (l .rows .rest) (l .held) (l .body)
+
+  -- the formula holds the rows of the file
+  pub held-rows : rowsOf (formulaOf (l .signals .count) (l .rows .count) (l .held)) ≡ l .held
+  held-rows = rows-of (l .signals .count) (l .rows .count) (l .held) (held-valid .0) (l .rows .most)
+
+  lines-valid : Valid f
+  lines-valid =
+      let range : EachAt (RowOk (l .signals .count)) 1 (rowsOf (formulaOf (l .signals .count) (l .rows .count) (l .held))) = rw held-rows (held-valid .1) in
+      subst Valid (l .table) (record {
+        in-range = record { some-signals = l .signals .least; most-signals = l .signals .most; some-rows = l .rows .least; most-rows = l .rows .most; rows-in-range = range };
+        unused-true = rw held-rows;
+      })
+
+-- ONLY VALID FORMULAS ARE READ
+pub rule-valid : (file : List ℕ) (f : Formula) → parseRule file ≡ accepted f → Valid f
+rule-valid file f e = lines-valid file f (rule-lines file f e)
 
 -- ---- a formula that passes the check
 

@@ -1,3 +1,4 @@
 pub mod Laws
 pub mod RowValues
 pub mod WrittenRows
+pub mod Exact

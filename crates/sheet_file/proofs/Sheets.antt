@@ -1,4 +1,5 @@
--- The sheet file and its written form: an activation table that is written is read back, and only the written form of one is read. Assumes nothing.
+-- Sheet files and the activation tables they hold: a table that is written is read back, and only valid tables are read. (That they are
+-- read from their written form alone: Exact.) Assumes nothing.
 use mathlib.Core.Path.{_≡_, refl, sym, ap, _∙_, subst}
 use mathlib.Core.Bool.{Bool, false}
 use mathlib.Core.List.{List, [], map}
@@ -30,10 +31,10 @@ use Rattle.text.specs.Result.Result.{accepted, refused}
 use Rattle.text.specs.Written.{decimal, writtenLine, writtenBody, digitsText}
 use Rattle.text.proofs.DigitLines.{digits-written, digits-free, digits-read}
 use Rattle.text.proofs.Laws.{text-length, all-ok, ok-at, count-short, body-short}
-use Rattle.text.proofs.Bodies.{body-written, body-read}
+use Rattle.text.proofs.Bodies.{body-written, body-valid}
 use Rattle.text.proofs.Answered.{accepted-table}
 use Rattle.text.proofs.RefusedLines.{RefusedBy, map-by, test-by, count-by, body-by, refused-line, outcome-line}
-use Rattle.text.proofs.Headers.{map-accepted, test-accepted, outcome-accepted, count-then, count-in, count-below, count-above, count-range}
+use Rattle.text.proofs.Headers.{map-accepted, test-accepted, outcome-accepted, CountThen, count-then, count-in, count-below, count-above, count-range}
 use Rattle.sheet_file.specs.Sheet.{rowLane, activationOf, parseSheet, sheetAnswer}
 use Rattle.sheet_file.specs.declared.sheet.SheetAnswer.{SheetAnswer}
 use Rattle.sheet_file.specs.Written.{rowsOf, writtenSheet}
@@ -41,13 +42,13 @@ use Rattle.sheet_file.specs.Valid.{InRange, Valid}
 
 -- ---- the file from each of its lines on
 
-abbrev FromBody : ℕ → ℕ → List ℕ → Result Activation
+abbrev pub FromBody : ℕ → ℕ → List ℕ → Result Activation
 FromBody rows cycles body = mapResult (activationOf rows cycles) (bodyLines 122 (λ r. digitsForm cycles) rows 1 4 body)
 
-abbrev FromCycles : ℕ → List ℕ → Result Activation
+abbrev pub FromCycles : ℕ → List ℕ → Result Activation
 FromCycles rows rest = onLine 3 (keyedLine (isKey (bytes "cycles")) (countForm 1 256 CountOutOfRange)) rest (FromBody rows)
 
-abbrev FromRows : ℕ → List ℕ → Result Activation
+abbrev pub FromRows : ℕ → List ℕ → Result Activation
 FromRows one rest = onLine 2 (keyedLine (isKey (bytes "rows")) (countForm 1 128 CountOutOfRange)) rest FromCycles
 
 by-lines : (file : List ℕ)
@@ -71,49 +72,43 @@ rows-of rows cycles rs h l e each =
     ∙ (tabulate-ext rows (λ i. tabulate cycles (bitAt (rowLane (getD rs i [])))) (λ i. getD rs i []) (λ i n. row-of cycles (getD rs i []) l (each i (omega arith)))
     ∙ tabulate-getD rs rows [] e)))
 
--- what is known of a table once its header is read
-module _ (rows cycles : ℕ) (some-r : 1 ≤ rows) (most-r : rows ≤ 128) (some-c : 1 ≤ cycles) (most-c : cycles ≤ 256) where
-  body-says : (body : List ℕ) (a : Activation) → FromBody rows cycles body ≡ accepted a
-      → (a .rows ≡ rows) × (a .cycles ≡ cycles) × (body ≡ writtenBody 122 digitsText 1 (rowsOf a)) × Valid a
-  body-says body a e =
-      let m = map-accepted (activationOf rows cycles) (bodyLines 122 (λ r. digitsForm cycles) rows 1 4 body) a e in
-      let b = body-read 122 (omega arith) (λ r. digitsForm cycles) digitsText (λ r ds. length ds ≡ cycles) (λ r v ds q. digits-read cycles v ds q) rows 1 4 body (m .0) (m .1) in
-      subst P (m .2) (whole (m .0) (b .size) (b .whole) (λ k h. ok-at (λ r ds. length ds ≡ cycles) [] (m .0) 1 (b .ok) k h))
-    where
-      P : Activation → Type 0
-      P a = (a .rows ≡ rows) × (a .cycles ≡ cycles) × (body ≡ writtenBody 122 digitsText 1 (rowsOf a)) × Valid a
+-- the lines of a file that is read, and what they hold
+pub record LinesOf (file : List ℕ) (a : Activation) : Type 0 where
+  pub format : CountThen (bytes "format") 1 1 WrongFormat 1 FromRows file a
+  pub rows : CountThen (bytes "rows") 1 128 CountOutOfRange 2 FromCycles (format .rest) a
+  pub cycles : CountThen (bytes "cycles") 1 256 CountOutOfRange 3 (FromBody (rows .count)) (rows .rest) a
+  pub held : List (List Bool)
+  pub body : bodyLines 122 (λ r. digitsForm (cycles .count)) (rows .count) 1 4 (cycles .rest) ≡ accepted held
+  pub table : activationOf (rows .count) (cycles .count) held ≡ a
 
-      whole : (rs : List (List Bool)) → length rs ≡ rows → body ≡ writtenBody 122 digitsText 1 rs → ((k : ℕ) → k < length rs → length (getD rs k []) ≡ cycles)
-          → P (activationOf rows cycles rs)
-      whole rs n w each =
-          let r : rowsOf (activationOf rows cycles rs) ≡ rs = rows-of rows cycles rs most-r most-c n each in (
-            refl,
-            refl,
-            w ∙ ap (writtenBody 122 digitsText 1) (sym r),
-            record {
-              range = record { some-rows = some-r; most-rows = most-r; some-cycles = some-c; most-cycles = most-c };
-              unused = ap (placed 128 rowLane []) (sym r);
-            },
-          )
-
--- the lines of a file put together
-together : (t : Activation) (file a b body : List ℕ) (one rows cycles : ℕ) → (1 ≤ one) × (one ≤ 1)
-    → file ≡ writtenLine (bytes "format") (decimal one) a → a ≡ writtenLine (bytes "rows") (decimal rows) b → b ≡ writtenLine (bytes "cycles") (decimal cycles) body
-    → (t .rows ≡ rows) × (t .cycles ≡ cycles) × (body ≡ writtenBody 122 digitsText 1 (rowsOf t)) × Valid t → (file ≡ writtenSheet t) × Valid t
-unfolding writtenSheet
-together t file a b body one rows cycles o ea eb ec w =
-    let n : one ≡ 1 = omega (arith, o .0, o .1) in
-    (rw (ea, eb, ec, n, w .2, w .0, w .1), w .3)
-
--- ONLY THE WRITTEN FORM OF AN ACTIVATION TABLE IS READ
-pub sheet-read : (file : List ℕ) (a : Activation) → parseSheet file ≡ accepted a → (file ≡ writtenSheet a) × Valid a
-sheet-read file a e =
-    let p = test-accepted (ltb 65536 (length file)) TooLong 0 (onLine 1 (keyedLine (isKey (bytes "format")) (countForm 1 1 WrongFormat)) file FromRows) a (sym (by-lines file) ∙ e) in
-    let f = count-then (bytes "format") 1 1 WrongFormat 1 FromRows file a p in
+pub sheet-lines : (file : List ℕ) (a : Activation) → parseSheet file ≡ accepted a → LinesOf file a
+sheet-lines file a e =
+    let whole : Result Activation = onLine 1 (keyedLine (isKey (bytes "format")) (countForm 1 1 WrongFormat)) file FromRows in
+    let f = count-then (bytes "format") 1 1 WrongFormat 1 FromRows file a (test-accepted (ltb 65536 (length file)) TooLong 0 whole a (sym (by-lines file) ∙ e)) in
     let r = count-then (bytes "rows") 1 128 CountOutOfRange 2 FromCycles (f .rest) a (f .goes) in
     let c = count-then (bytes "cycles") 1 256 CountOutOfRange 3 (FromBody (r .count)) (r .rest) a (r .goes) in
-    let b = body-says (r .count) (c .count) (r .least) (r .most) (c .least) (c .most) (c .rest) a (c .goes) in
-    together a file (f .rest) (r .rest) (c .rest) (f .count) (r .count) (c .count) (f .least, f .most) (f .whole) (r .whole) (c .whole) b
+    let m = map-accepted (activationOf (r .count) (c .count)) (bodyLines 122 (λ r. digitsForm (c .count)) (r .count) 1 4 (c .rest)) a (c .goes) in
+    record { format = f; rows = r; cycles = c; held = m .0; body = m .1; table = m .2 }
+
+module _ (file : List ℕ) (a : Activation) (l : LinesOf file a) where
+  -- the table holds the rows of the file
+  pub held-rows : rowsOf (activationOf (l .rows .count) (l .cycles .count) (l .held)) ≡ l .held
+  held-rows =
+      let c : ℕ = l .cycles .count in
+      let Ok : ℕ → List Bool → Type 0 = λ r ds. length ds ≡ c in
+      let b = body-valid 122 (λ r. digitsForm c) Ok (λ r v ds q. digits-read c v ds q .1) (l .rows .count) 1 4 (l .cycles .rest) (l .held) (l .body) in
+      rows-of (l .rows .count) c (l .held) (l .rows .most) (l .cycles .most) (b .0) (ok-at Ok [] (l .held) 1 (b .1))
+
+  lines-valid : Valid a
+  lines-valid =
+      subst Valid (l .table) (record {
+        range = record { some-rows = l .rows .least; most-rows = l .rows .most; some-cycles = l .cycles .least; most-cycles = l .cycles .most };
+        unused = ap (placed 128 rowLane []) (sym held-rows);
+      })
+
+-- ONLY VALID ACTIVATION TABLES ARE READ
+pub sheet-valid : (file : List ℕ) (a : Activation) → parseSheet file ≡ accepted a → Valid a
+sheet-valid file a e = lines-valid file a (sheet-lines file a e)
 
 -- ---- a table as its file
 
@@ -199,10 +194,6 @@ sheet-written a v =
     let full : length (a .lanes) ≡ 128 = ap length (v .unused) ∙ length-tabulate 128 0 (λ i. rowLane (getD (rowsOf a) i [])) in
     sheet-in-range a full (v .range)
     ∙ ap (λ ls. accepted (record { rows = a .rows; cycles = a .cycles; lanes = ls })) (sym (v .unused))
-
--- TWO FILES THAT YIELD ONE TABLE ARE THE SAME
-pub sheet-once : (f g : List ℕ) (a : Activation) → parseSheet f ≡ accepted a → parseSheet g ≡ accepted a → f ≡ g
-sheet-once f g a p q = sheet-read f a p .0 ∙ sym (sheet-read g a q .0)
 
 accepted-range : (a x : Activation) → parseSheet (writtenSheet a) ≡ accepted x → InRange a
 unfolding writtenSheet

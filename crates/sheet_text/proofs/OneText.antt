@@ -11,7 +11,7 @@ use Rattle.text.specs.Result.{Result}
 use Rattle.text.specs.Result.Result.{accepted, refused}
 use Rattle.rule_file.specs.Rule.{parseRule}
 use Rattle.rule_file.specs.Valid.{InRange}
-use Rattle.rule_file.proofs.Rules.{rule-read}
+use Rattle.rule_file.proofs.Rules.{rule-valid}
 use Rattle.take_file.specs.Take.{parseTake}
 use Rattle.normal_form.specs.declared.sign.Sign.the-variants.{Plain}
 use Rattle.normal_form.specs.Numbering.{normalForm}
@@ -39,7 +39,7 @@ module _ (rule : List ℕ) (q : Result Trace) (text other : List ℕ) where
   on : (p : Result Formula) → parseRule rule ≡ p → (q : Result Trace) → IsText p q text → IsText p q other → text ≡ other
   on (refused e n) r q x y = x ∙ sym y
   on (accepted f) r (refused e n) x y = x ∙ sym y
-  on (accepted f) r (accepted t) x y = one-told f t (rule-read rule f r .1 .in-range) text other (meetingOutcome Either f t) x y
+  on (accepted f) r (accepted t) x y = one-told f t (rule-valid rule f r .in-range) text other (meetingOutcome Either f t) x y
 
   pub one-text : IsText (parseRule rule) q text → IsText (parseRule rule) q other → text ≡ other
   one-text x y = on (parseRule rule) refl q x y

@@ -1,5 +1,5 @@
 -- The value of the line `loop=`, and its written form. Assumes nothing.
-use mathlib.Core.Path.{_≡_, refl, sym, ap, _∙_}
+use mathlib.Core.Path.{_≡_, refl, sym, ap, _∙_, subst}
 use mathlib.Core.Bool.{Bool, true, false}
 use mathlib.Core.List.{List}
 use Prim.Native.Nat.{ℕ, _≤_, _<_}
@@ -20,9 +20,9 @@ use Rattle.text.specs.Written.{decimal}
 use Rattle.text.specs.declared.number.Number.the-variants.{Is, Not}
 use Rattle.tables.proofs.Choices.{clash, each-pick}
 use Rattle.text.proofs.Searching.{same-refl, same-eq}
-use Rattle.text.proofs.Numbers.{number-written, number-read, each-number}
+use Rattle.text.proofs.Numbers.{number-written, number-own, each-number}
 use Rattle.text.proofs.Lines.{Free, line-inside}
-use Rattle.text.proofs.Headers.{free, free-below, decimal-inj, decimal-word}
+use Rattle.text.proofs.Headers.{free, free-below, decimal-word}
 use Rattle.take_file.specs.Ending.{endingValue, endingLineAs}
 use Rattle.take_file.specs.declared.ending.EndingLine.{EndingLine}
 use Rattle.take_file.specs.declared.ending.EndingLine.the-variants.{Ending as EndingRead, Wrong}
@@ -68,12 +68,6 @@ pub ending-free : (e : Ending) → Free 10 (endingText e)
 ending-free Open = free 10 (bytes "none") refl
 ending-free (Loop n) = free-below 10 n (omega arith)
 
-pub ending-inj : (a b : Ending) → endingText a ≡ endingText b → a ≡ b
-ending-inj Open Open e = refl
-ending-inj Open (Loop n) e = absurd (no-word n (sym e))
-ending-inj (Loop m) Open e = absurd (no-word m e)
-ending-inj (Loop m) (Loop n) e = ap Loop (decimal-inj m n e)
-
 pub ending-written : (cycles : ℕ) (e : Ending) → cycles ≤ 256 → Below cycles e → endingValue cycles (endingText e) ≡ good e
 ending-written cycles Open h b = ending-none cycles (bytes "none") (same-refl (bytes "none"))
 ending-written cycles (Loop n) h b = ending-loop cycles (decimal n) (decimal-other n) (number-written n (omega arith)) b
@@ -81,30 +75,37 @@ ending-written cycles (Loop n) h b = ending-loop cycles (decimal n) (decimal-oth
 pub ending-outside : (cycles n : ℕ) → cycles ≤ n → n < 100000 → endingValue cycles (endingText (Loop n)) ≡ bad BadLoop
 ending-outside cycles n h l = ending-beyond cycles (decimal n) (decimal-other n) (number-written n l) h
 
-pub ending-read : (cycles : ℕ) (v : List ℕ) (e : Ending) → endingValue cycles v ≡ good e → (v ≡ endingText e) × Below cycles e
+-- what is read of an ending: `none`, or a number below the number of cycles
+pub data EndingOf (cycles : ℕ) (v : List ℕ) : Ending → Type 0 where
+  ended : sameBytes v (bytes "none") ≡ true → EndingOf cycles v Open
+  looped : (n : ℕ) → sameBytes v (bytes "none") ≡ false → numberOf v ≡ Is n → n < cycles → EndingOf cycles v (Loop n)
+
+pub ending-read : (cycles : ℕ) (v : List ℕ) (e : Ending) → endingValue cycles v ≡ good e → EndingOf cycles v e
 unfolding endingValue
 ending-read cycles v e =
-    each-pick P (sameBytes v (bytes "none")) (λ s q. ended s e (cc))
-    (λ _. each-number P (numberOf v) (λ q. clash (cc)) (λ m d. each-pick P (leb cycles m) (λ _ q. clash (cc)) (λ l q. loop m d l e (cc))))
+    each-pick P (sameBytes v (bytes "none")) (λ s q. let z : Open ≡ e = cc in subst (EndingOf cycles v) z (ended s))
+    (λ s. each-number P (numberOf v) (λ q. clash (cc)) (λ n d. each-pick P (leb cycles n) (λ _ q. clash (cc))
+    (λ l q. let z : Loop n ≡ e = cc in subst (EndingOf cycles v) z (looped n s (sym d) (leb-false cycles n l)))))
   where
     P : Parsed Ending → Type 0
-    P p = p ≡ good e → (v ≡ endingText e) × Below cycles e
+    P p = p ≡ good e → EndingOf cycles v e
 
-    ended : sameBytes v (bytes "none") ≡ true → (x : Ending) → Open ≡ x → (v ≡ endingText x) × Below cycles x
-    ended s Open q = (same-eq v (bytes "none") s, tt)
-    ended s (Loop n) q = clash (cc)
+-- an ending that is accepted is in range
+pub ending-valid : {cycles : ℕ} {v : List ℕ} {e : Ending} → EndingOf cycles v e → Below cycles e
+ending-valid (ended s) = tt
+ending-valid (looped n s d l) = l
 
-    loop : (m : ℕ) → Is m ≡ numberOf v → leb cycles m ≡ false → (x : Ending) → Loop m ≡ x → (v ≡ endingText x) × Below cycles x
-    loop m d l Open q = clash (cc)
-    loop m d l (Loop n) q =
-        let z : m ≡ n = cc in
-        rw (← z) (number-read v m (sym d), leb-false cycles m l)
+-- and a written one is read as itself, whatever it is
+ending-own : {cycles : ℕ} (e : Ending) {x : Ending} → EndingOf cycles (endingText e) x → e ≡ x
+ending-own Open (ended s) = refl
+ending-own Open (looped n s d l) = clash (cc (same-refl (bytes "none")))
+ending-own (Loop m) (ended s) = clash (cc (decimal-other m))
+ending-own (Loop m) (looped n s d l) = ap Loop (number-own m n d)
 
--- a written ending that is accepted is in range, whatever it is
 pub ending-range : (cycles : ℕ) (e x : Ending) → endingValue cycles (endingText e) ≡ good x → (e ≡ x) × Below cycles x
 ending-range cycles e x q =
     let w = ending-read cycles (endingText e) x q in
-    (ending-inj e x (w .0), w .1)
+    (ending-own e w, ending-valid w)
 
 -- what a call ensures of the line, and what is known of its result
 pub ending-is : {p : Parsed (Next Ending)} {r : EndingLine} {e : Ending} {i : ℕ} → endingLineAs r ≡ p → r ≡ EndingRead e i → p ≡ good (record { value = e; next = i })

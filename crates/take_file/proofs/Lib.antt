@@ -1,3 +1,4 @@
 pub mod Endings
 pub mod Reading
 pub mod Takes
+pub mod Exact

@@ -1,4 +1,5 @@
--- The take file and its written form: a trace that is written is read back, and only the written form of a trace is read. Assumes nothing.
+-- Take files and the traces they hold: a trace that is written is read back, and only valid traces are read. (That they are read from
+-- their written form alone: Exact.) Assumes nothing.
 use mathlib.Core.Path.{_≡_, refl, sym, ap, _∙_, subst}
 use mathlib.Core.Bool.{Bool, false}
 use mathlib.Core.List.{List, [], map}
@@ -30,34 +31,34 @@ use Rattle.text.specs.Result.Parsed.{bad}
 use Rattle.text.specs.Result.Result.{accepted, refused}
 use Rattle.text.specs.Written.{decimal, writtenLine, writtenBody, digitsText}
 use Rattle.tables.proofs.Choices.{clash, know}
-use Rattle.text.proofs.Searching.{same-refl, same-eq}
+use Rattle.text.proofs.Searching.{same-refl}
 use Rattle.text.proofs.Lines.{line-step}
 use Rattle.text.proofs.DigitLines.{digits-written, digits-free, digits-read}
 use Rattle.text.proofs.Laws.{text-length, all-ok, ok-at, decimal-short, line-length, count-short, body-short}
-use Rattle.text.proofs.Bodies.{body-written, body-read}
+use Rattle.text.proofs.Bodies.{body-written, body-valid}
 use Rattle.text.proofs.Answered.{accepted-table}
 use Rattle.text.proofs.RefusedLines.{RefusedBy, map-by, test-by, line-by, count-by, body-by, refused-line, outcome-line}
-use Rattle.text.proofs.Headers.{free, parsed-accepted, map-accepted, test-accepted, outcome-accepted, line-then, count-then, count-in, count-below, count-above, count-range}
+use Rattle.text.proofs.Headers.{free, parsed-accepted, map-accepted, test-accepted, outcome-accepted, LineThen, line-then, CountThen, count-then, count-in, count-below, count-above, count-range}
 use Rattle.take_file.specs.Ending.{endingValue}
 use Rattle.recording.specs.Recording.{digit, lanesOf}
 use Rattle.take_file.specs.Take.{traceOf, parseTake, takeAnswer}
 use Rattle.take_file.specs.declared.take.TakeAnswer.{TakeAnswer}
 use Rattle.take_file.specs.Written.{endingText, cyclesOf, writtenTake}
 use Rattle.take_file.specs.Valid.{Below, isBelow, InRange, Valid}
-use Rattle.take_file.proofs.Endings.{ending-free, ending-written, ending-outside, ending-read, ending-range}
+use Rattle.take_file.proofs.Endings.{ending-free, ending-written, ending-outside, ending-read, ending-valid, ending-range}
 
 -- ---- the file from each of its lines on
 
-abbrev FromBody : ℕ → ℕ → Ending → List ℕ → Result Trace
+abbrev pub FromBody : ℕ → ℕ → Ending → List ℕ → Result Trace
 FromBody signals cycles ending body = mapResult (traceOf signals cycles ending) (bodyLines 99 (λ c. digitsForm signals) cycles 0 5 body)
 
-abbrev FromLoop : ℕ → ℕ → List ℕ → Result Trace
+abbrev pub FromLoop : ℕ → ℕ → List ℕ → Result Trace
 FromLoop signals cycles rest = onLine 4 (keyedLine (isKey (bytes "loop")) (endingValue cycles)) rest (FromBody signals cycles)
 
-abbrev FromCycles : ℕ → List ℕ → Result Trace
+abbrev pub FromCycles : ℕ → List ℕ → Result Trace
 FromCycles signals rest = onLine 3 (keyedLine (isKey (bytes "cycles")) (countForm 1 256 CountOutOfRange)) rest (FromLoop signals)
 
-abbrev FromSignals : ℕ → List ℕ → Result Trace
+abbrev pub FromSignals : ℕ → List ℕ → Result Trace
 FromSignals one rest = onLine 2 (keyedLine (isKey (bytes "signals")) (countForm 1 32 CountOutOfRange)) rest FromCycles
 
 by-lines : (file : List ℕ)
@@ -83,54 +84,46 @@ cycles-of signals cycles ending cs h l e each =
     rw m (tabulate-ext cycles (λ c. map (λ (l : Lane). bitAt l c) (take signals (lanesOf cs))) (λ c. getD cs c []) (λ k n. cycle-of signals cs k h (omega arith) (each k (omega arith)))
     ∙ tabulate-getD cs cycles [] e)
 
--- what is known of a trace once its header is read
-module _ (signals cycles : ℕ) (ending : Ending) (some-s : 1 ≤ signals) (most-s : signals ≤ 32) (some-c : 1 ≤ cycles) (most-c : cycles ≤ 256) (loop : Below cycles ending) where
-  body-says : (body : List ℕ) (t : Trace) → FromBody signals cycles ending body ≡ accepted t
-      → (t .signals ≡ signals) × (t .cycles ≡ cycles) × (t .ending ≡ ending) × (body ≡ writtenBody 99 digitsText 0 (cyclesOf t)) × Valid t
-  body-says body t e =
-      let m = map-accepted (traceOf signals cycles ending) (bodyLines 99 (λ c. digitsForm signals) cycles 0 5 body) t e in
-      let b = body-read 99 (omega arith) (λ c. digitsForm signals) digitsText (λ c ds. length ds ≡ signals) (λ c v ds q. digits-read signals v ds q) cycles 0 5 body (m .0) (m .1) in
-      subst P (m .2) (whole (m .0) (b .size) (b .whole) (λ k h. ok-at (λ c ds. length ds ≡ signals) [] (m .0) 0 (b .ok) k h))
-    where
-      P : Trace → Type 0
-      P t = (t .signals ≡ signals) × (t .cycles ≡ cycles) × (t .ending ≡ ending) × (body ≡ writtenBody 99 digitsText 0 (cyclesOf t)) × Valid t
+-- the lines of a file that is read, and what they hold
+pub record LinesOf (file : List ℕ) (t : Trace) : Type 0 where
+  pub format : CountThen (bytes "format") 1 1 WrongFormat 1 FromSignals file t
+  pub signals : CountThen (bytes "signals") 1 32 CountOutOfRange 2 FromCycles (format .rest) t
+  pub cycles : CountThen (bytes "cycles") 1 256 CountOutOfRange 3 (FromLoop (signals .count)) (signals .rest) t
+  pub loop : LineThen (isKey (bytes "loop")) (endingValue (cycles .count)) (FromBody (signals .count) (cycles .count)) (cycles .rest) t
+  pub held : List (List Bool)
+  pub body : bodyLines 99 (λ c. digitsForm (signals .count)) (cycles .count) 0 5 (loop .rest) ≡ accepted held
+  pub table : traceOf (signals .count) (cycles .count) (loop .value) held ≡ t
 
-      whole : (cs : List (List Bool)) → length cs ≡ cycles → body ≡ writtenBody 99 digitsText 0 cs → ((k : ℕ) → k < length cs → length (getD cs k []) ≡ signals)
-          → P (traceOf signals cycles ending cs)
-      whole cs n w each =
-          let c : cyclesOf (traceOf signals cycles ending cs) ≡ cs = cycles-of signals cycles ending cs most-s most-c n each in (
-            refl,
-            refl,
-            refl,
-            w ∙ ap (writtenBody 99 digitsText 0) (sym c),
-            record {
-              range = record { some-signals = some-s; most-signals = most-s; some-cycles = some-c; most-cycles = most-c; loop = loop };
-              unused = ap lanesOf (sym c);
-            },
-          )
-
--- the lines of a file put together
-together : (t : Trace) (file a b c body key text : List ℕ) (one signals cycles : ℕ) (ending : Ending) → (1 ≤ one) × (one ≤ 1) → key ≡ bytes "loop" → text ≡ endingText ending
-    → file ≡ writtenLine (bytes "format") (decimal one) a → a ≡ writtenLine (bytes "signals") (decimal signals) b
-    → b ≡ writtenLine (bytes "cycles") (decimal cycles) c → c ≡ writtenLine key text body
-    → (t .signals ≡ signals) × (t .cycles ≡ cycles) × (t .ending ≡ ending) × (body ≡ writtenBody 99 digitsText 0 (cyclesOf t)) × Valid t → (file ≡ writtenTake t) × Valid t
-unfolding writtenTake
-together t file a b c body key text one signals cycles ending o k v ea eb ec ed w =
-    let n : one ≡ 1 = omega (arith, o .0, o .1) in
-    (rw (ea, eb, ec, ed, k, v, n, w .3, w .0, w .1, w .2), w .4)
-
--- ONLY THE WRITTEN FORM OF A TRACE IS READ
-pub take-read : (file : List ℕ) (t : Trace) → parseTake file ≡ accepted t → (file ≡ writtenTake t) × Valid t
-take-read file t e =
-    let a = test-accepted (ltb 65536 (length file)) TooLong 0 (onLine 1 (keyedLine (isKey (bytes "format")) (countForm 1 1 WrongFormat)) file FromSignals) t (sym (by-lines file) ∙ e) in
-    let f = count-then (bytes "format") 1 1 WrongFormat 1 FromSignals file t a in
+pub take-lines : (file : List ℕ) (t : Trace) → parseTake file ≡ accepted t → LinesOf file t
+take-lines file t e =
+    let whole : Result Trace = onLine 1 (keyedLine (isKey (bytes "format")) (countForm 1 1 WrongFormat)) file FromSignals in
+    let f = count-then (bytes "format") 1 1 WrongFormat 1 FromSignals file t (test-accepted (ltb 65536 (length file)) TooLong 0 whole t (sym (by-lines file) ∙ e)) in
     let s = count-then (bytes "signals") 1 32 CountOutOfRange 2 FromCycles (f .rest) t (f .goes) in
     let c = count-then (bytes "cycles") 1 256 CountOutOfRange 3 (FromLoop (s .count)) (s .rest) t (s .goes) in
     let l = line-then (isKey (bytes "loop")) (endingValue (c .count)) 4 (FromBody (s .count) (c .count)) (c .rest) t (c .goes) in
-    let n = ending-read (c .count) (l .text) (l .value) (l .stands) in
-    let b = body-says (s .count) (c .count) (l .value) (s .least) (s .most) (c .least) (c .most) (n .1) (l .rest) t (l .goes) in
-    let key : l .key ≡ bytes "loop" = same-eq (l .key) (bytes "loop") (l .named) in
-    together t file (f .rest) (s .rest) (c .rest) (l .rest) (l .key) (l .text) (f .count) (s .count) (c .count) (l .value) (f .least, f .most) key (n .0) (f .whole) (s .whole) (c .whole) (l .whole) b
+    let m = map-accepted (traceOf (s .count) (c .count) (l .value)) (bodyLines 99 (λ c. digitsForm (s .count)) (c .count) 0 5 (l .rest)) t (l .goes) in
+    record { format = f; signals = s; cycles = c; loop = l; held = m .0; body = m .1; table = m .2 }
+
+module _ (file : List ℕ) (t : Trace) (l : LinesOf file t) where
+  -- the trace holds the cycles of the file
+  pub held-cycles : cyclesOf (traceOf (l .signals .count) (l .cycles .count) (l .loop .value) (l .held)) ≡ l .held
+  held-cycles =
+      let s : ℕ = l .signals .count in
+      let Ok : ℕ → List Bool → Type 0 = λ c ds. length ds ≡ s in
+      let b = body-valid 99 (λ c. digitsForm s) Ok (λ c v ds q. digits-read s v ds q .1) (l .cycles .count) 0 5 (l .loop .rest) (l .held) (l .body) in
+      cycles-of s (l .cycles .count) (l .loop .value) (l .held) (l .signals .most) (l .cycles .most) (b .0) (ok-at Ok [] (l .held) 0 (b .1))
+
+  lines-valid : Valid t
+  lines-valid =
+      let below : Below (l .cycles .count) (l .loop .value) = ending-valid (ending-read (l .cycles .count) (l .loop .text) (l .loop .value) (l .loop .stands)) in
+      subst Valid (l .table) (record {
+        range = record { some-signals = l .signals .least; most-signals = l .signals .most; some-cycles = l .cycles .least; most-cycles = l .cycles .most; loop = below };
+        unused = ap lanesOf (sym held-cycles);
+      })
+
+-- ONLY VALID TRACES ARE READ
+pub take-valid : (file : List ℕ) (t : Trace) → parseTake file ≡ accepted t → Valid t
+take-valid file t e = lines-valid file t (take-lines file t e)
 
 -- ---- a trace as its file
 
@@ -233,10 +226,6 @@ take-written t v =
     let full : length (t .lanes) ≡ 32 = ap length (v .unused) ∙ length-tabulate 32 0 (λ s. laneOf (λ c. digit (cyclesOf t) c s)) in
     in-range t full (v .range .some-signals) (v .range .most-signals) (v .range .some-cycles) (v .range .most-cycles) (v .range .loop)
     ∙ ap (λ ls. accepted (record { signals = t .signals; cycles = t .cycles; ending = t .ending; lanes = ls })) (sym (v .unused))
-
--- TWO FILES THAT YIELD ONE TABLE ARE THE SAME
-pub take-once : (a b : List ℕ) (t : Trace) → parseTake a ≡ accepted t → parseTake b ≡ accepted t → a ≡ b
-take-once a b t p q = take-read a t p .0 ∙ sym (take-read b t q .0)
 
 accepted-range : (t x : Trace) → parseTake (writtenTake t) ≡ accepted x → InRange t
 unfolding writtenTake

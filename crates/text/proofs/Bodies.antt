@@ -14,9 +14,9 @@ use Rattle.text.specs.Result.{Parsed, Next, Result, onParsed, mapResult,
 use Rattle.text.specs.Result.Parsed.{good, bad}
 use Rattle.text.specs.Result.Result.{accepted, refused}
 use Rattle.text.specs.Body.{bodyLines, EachAt}
-use Rattle.text.specs.Written.{decimal, writtenLine, writtenBody}
+use Rattle.text.specs.Written.{decimal, writtenBody}
 use Rattle.tables.proofs.Choices.{clash, each-pick}
-use Rattle.text.proofs.Lines.{Free, free-decimal, no-digit-below, no-digit-above, line-step, LineOf, line-read, numbered-written, numbered-read}
+use Rattle.text.proofs.Lines.{Free, free-decimal, no-digit-below, no-digit-above, line-step, LineOf, line-read, numbered-written}
 
 pub map-map : {A B C : Type 0} (f : B → C) (g : A → B) (r : Result A) → mapResult f (mapResult g r) ≡ mapResult (λ x. f (g x)) r
 map-map f g (accepted x) = refl
@@ -86,12 +86,6 @@ module _ {A : Type 0} {letter : ℕ} {form : ℕ → List ℕ → Parsed A} {tot
 
 -- ---- written bodies
 
--- the lines of a body that was read
-pub record BodyOf {A : Type 0} (letter : ℕ) (text : A → List ℕ) (Ok : ℕ → A → Type 0) (left k : ℕ) (rest : List ℕ) (xs : List A) : Type 0 where
-  pub size : length xs ≡ left
-  pub whole : rest ≡ writtenBody letter text k xs
-  pub ok : EachAt Ok k xs
-
 empty : (s : List ℕ) → length s ≡ 0 → s ≡ []
 empty [] e = refl
 empty (x ∷ xs) e = absurd (omega arith)
@@ -117,35 +111,42 @@ module _ {A : Type 0} (letter : ℕ) (big : 61 < letter) (form : ℕ → List �
         let w = reads k x (omega arith) (ok .0) in
         body-line (length xs) k n x xs (omega arith) (w .1) ∙ rw (w .0, body-written reads xs (k + 1) (n + 1) (omega arith) (ok .1))
 
-    module _ (only : (k : ℕ) (v : List ℕ) (x : A) → form k v ≡ good x → (v ≡ text x) × Ok k x) where
-      extend : (left k : ℕ) (rest : List ℕ) (x : Next A) (xs : List A) → LineOf (isNumbered letter k) (form k) rest x
-          → (r : Result (List A)) → ((ys : List A) → r ≡ accepted ys → BodyOf letter text Ok left (k + 1) (drop (x .next) rest) ys)
-          → mapResult (_∷_ (x .value)) r ≡ accepted xs → BodyOf letter text Ok (suc left) k rest xs
-      unfolding writtenBody
-      extend left k rest x xs l (accepted ys) ih e =
-          let b = ih ys refl in
-          let o = only k (l .text) (x .value) (l .stands) in
-          let z : x .value ∷ ys ≡ xs = cc in
-          let n : l .key ≡ letter ∷ decimal k = numbered-read letter k (l .key) (l .named) in
-          let w : rest ≡ writtenLine (letter ∷ decimal k) (text (x .value)) (writtenBody letter text (k + 1) ys) =
-          l .whole ∙ rw (n, o .0, b .whole) in
-          subst (BodyOf letter text Ok (suc left) k rest) z (record { size = ap suc (b .size); whole = w; ok = (o .1, b .ok) })
-      extend left k rest x xs l (refused r n) ih e = clash (cc)
+-- ---- bodies that are read
 
-      -- ONLY WHAT IS WRITTEN IS READ
-      pub body-read : (left k n : ℕ) (rest : List ℕ) (xs : List A) → bodyLines letter form left k n rest ≡ accepted xs → BodyOf letter text Ok left k rest xs
-      unfolding bodyLines writtenBody
-      body-read zero k n rest xs =
-          each-pick (λ r. r ≡ accepted xs → BodyOf letter text Ok zero k rest xs) (eqb (length rest) 0)
-          (λ e q. let z : [] ≡ xs = cc in subst (BodyOf letter text Ok zero k rest) z (record { size = refl; whole = empty rest (eqb-true (length rest) 0 e); ok = tt }))
-          (λ _ q. clash (cc))
-      body-read (suc left) k n rest xs = by (keyedLine (isNumbered letter k) (form k) rest) refl (λ x ys. body-read left (k + 1) (n + 1) (drop (x .next) rest) ys)
-        where
-          by : (p : Parsed (Next A)) → keyedLine (isNumbered letter k) (form k) rest ≡ p
-              → ((x : Next A) (ys : List A) → bodyLines letter form left (k + 1) (n + 1) (drop (x .next) rest) ≡ accepted ys → BodyOf letter text Ok left (k + 1) (drop (x .next) rest) ys)
-              → onParsed p (λ e. refused e n) (λ x. mapResult (_∷_ (x .value)) (bodyLines letter form left (k + 1) (n + 1) (drop (x .next) rest))) ≡ accepted xs
-              → BodyOf letter text Ok (suc left) k rest xs
-          by (good x) e ih q =
-              extend left k rest x xs (line-read (isNumbered letter k) (form k) rest x e)
-              (bodyLines letter form left (k + 1) (n + 1) (drop (x .next) rest)) (ih x) q
-          by (bad r) e ih q = clash (cc)
+-- WHAT HOLDS OF EVERY BODY THAT IS READ: it holds of one without lines, and with each line more
+module _ {A : Type 0} (letter : ℕ) (form : ℕ → List ℕ → Parsed A) (Q : ℕ → ℕ → List ℕ → List A → Type 0)
+    (none : (k : ℕ) (rest : List ℕ) → rest ≡ [] → Q zero k rest [])
+    (more : (left k : ℕ) (rest : List ℕ) (x : Next A) (ys : List A) → LineOf (isNumbered letter k) (form k) rest x
+    → Q left (k + 1) (drop (x .next) rest) ys → Q (suc left) k rest (x .value ∷ ys)) where
+  extend : (left k : ℕ) (rest : List ℕ) (x : Next A) (xs : List A) → LineOf (isNumbered letter k) (form k) rest x
+      → (r : Result (List A)) → ((ys : List A) → r ≡ accepted ys → Q left (k + 1) (drop (x .next) rest) ys)
+      → mapResult (_∷_ (x .value)) r ≡ accepted xs → Q (suc left) k rest xs
+  extend left k rest x xs l (accepted ys) ih e =
+      let z : x .value ∷ ys ≡ xs = cc in
+      subst (Q (suc left) k rest) z (more left k rest x ys l (ih ys refl))
+  extend left k rest x xs l (refused r n) ih e = clash (cc)
+
+  pub body-each : (left k n : ℕ) (rest : List ℕ) (xs : List A) → bodyLines letter form left k n rest ≡ accepted xs → Q left k rest xs
+  unfolding bodyLines
+  body-each zero k n rest xs =
+      each-pick (λ r. r ≡ accepted xs → Q zero k rest xs) (eqb (length rest) 0)
+      (λ e q. let z : [] ≡ xs = cc in subst (Q zero k rest) z (none k rest (empty rest (eqb-true (length rest) 0 e))))
+      (λ _ q. clash (cc))
+  body-each (suc left) k n rest xs = by (keyedLine (isNumbered letter k) (form k) rest) refl (λ x ys. body-each left (k + 1) (n + 1) (drop (x .next) rest) ys)
+    where
+      by : (p : Parsed (Next A)) → keyedLine (isNumbered letter k) (form k) rest ≡ p
+          → ((x : Next A) (ys : List A) → bodyLines letter form left (k + 1) (n + 1) (drop (x .next) rest) ≡ accepted ys → Q left (k + 1) (drop (x .next) rest) ys)
+          → onParsed p (λ e. refused e n) (λ x. mapResult (_∷_ (x .value)) (bodyLines letter form left (k + 1) (n + 1) (drop (x .next) rest))) ≡ accepted xs
+          → Q (suc left) k rest xs
+      by (good x) e ih q =
+          extend left k rest x xs (line-read (isNumbered letter k) (form k) rest x e)
+          (bodyLines letter form left (k + 1) (n + 1) (drop (x .next) rest)) (ih x) q
+      by (bad r) e ih q = clash (cc)
+
+-- AS MANY AS THERE ARE LINES, and each is as what its line holds says
+pub body-valid : {A : Type 0} (letter : ℕ) (form : ℕ → List ℕ → Parsed A) (Ok : ℕ → A → Type 0)
+    → ((k : ℕ) (v : List ℕ) (x : A) → form k v ≡ good x → Ok k x)
+    → (left k n : ℕ) (rest : List ℕ) (xs : List A) → bodyLines letter form left k n rest ≡ accepted xs → (length xs ≡ left) × EachAt Ok k xs
+body-valid letter form Ok each =
+    body-each letter form (λ left k rest xs. (length xs ≡ left) × EachAt Ok k xs) (λ k rest e. (refl, tt))
+    (λ left k rest x ys l ih. (ap suc (ih .0), (each k (l .text) (x .value) (l .stands), ih .1)))

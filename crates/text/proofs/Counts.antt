@@ -18,7 +18,7 @@ use Rattle.text.specs.declared.line.Counted.{Counted}
 use Rattle.text.specs.declared.line.Counted.the-variants.{Count}
 use Rattle.text.specs.declared.number.Number.the-variants.{Is, Not}
 use Rattle.tables.proofs.Choices.{clash, each-pick}
-use Rattle.text.proofs.Numbers.{number-written, number-read, each-number}
+use Rattle.text.proofs.Numbers.{number-written, each-number}
 use Rattle.text.proofs.Lines.{line-inside, line-read}
 
 -- the value of a count, by its number
@@ -44,11 +44,11 @@ module _ (low high : ℕ) (outside : Reason) (v : List ℕ) where
 pub count-written : (low high : ℕ) (outside : Reason) (n : ℕ) → low ≤ n → n ≤ high → n < 100000 → countForm low high outside (decimal n) ≡ good n
 count-written low high outside n l u h = value-within low high outside (decimal n) (number-written n h) l u
 
--- what is read of a count: its range and its text
+-- what is read of a count: its number, and that it is in range
 pub record CountOf (low high : ℕ) (v : List ℕ) (n : ℕ) : Type 0 where
   pub least : low ≤ n
   pub most : n ≤ high
-  pub text : v ≡ decimal n
+  pub number : numberOf v ≡ Is n
 
 pub count-read : (low high : ℕ) (outside : Reason) (v : List ℕ) (n : ℕ) → countForm low high outside v ≡ good n → CountOf low high v n
 unfolding countForm
@@ -63,7 +63,7 @@ count-read low high outside v n =
         record {
           least = rw q at (ltb-false m low l);
           most = rw q at (ltb-false high m u);
-          text = rw q at (number-read v m (sym e));
+          number = sym e ∙ ap Is q;
         }
 
 -- the same of what reading a line ensures and what is known of its result

@@ -12,6 +12,7 @@ use Rattle.tables.specs.Choice.{pick}
 use Rattle.tables.specs.declared.refusal.Reason.{Reason}
 use Rattle.tables.specs.declared.refusal.Outcome.the-variants.{Accepted}
 use Rattle.text.specs.Line.{isKey, keyedLine}
+use Rattle.text.specs.Number.{numberOf}
 use Rattle.text.specs.Count.{countForm, countedAs}
 use Rattle.text.specs.Result.{Parsed, Next, Result, onParsed, onLine, mapResult, outcomeOf}
 use Rattle.text.specs.Result.Parsed.{good, bad}
@@ -19,9 +20,11 @@ use Rattle.text.specs.Result.Result.{accepted, refused}
 use Rattle.text.specs.Written.{decimalIn, decimal, writtenLine}
 use Rattle.text.specs.declared.line.Counted.{Counted}
 use Rattle.text.specs.declared.line.Counted.the-variants.{Count, Wrong}
+use Rattle.text.specs.declared.number.Number.the-variants.{Is}
 use Rattle.tables.proofs.Choices.{clash}
 use Rattle.text.proofs.Searching.{same-refl, same-eq}
-use Rattle.text.proofs.Numbers.{number-written, decimal-small, decimal-large, decimal-length}
+use Rattle.text.proofs.Numbers.{number-written, number-own}
+use Rattle.text.proofs.Laws.{decimal-small, decimal-large}
 use Rattle.text.proofs.Lines.{Free, free-append, line-step, line-read}
 use Rattle.text.proofs.Counts.{value-below, value-above, count-written, count-read}
 
@@ -77,28 +80,6 @@ digits f n = by (decLt n 10)
     by : Dec (n < 10) → Digits f n
     by (yes l) = one l (decimal-small (suc f) n l)
     by (no g) = let l : 10 ≤ n = omega arith in more l (decimal-large f n l)
-
-inj-in : (f n m : ℕ) → decimalIn f n ≡ decimalIn f m → n ≡ m
-inj-in zero n m e = let q : 48 + n ≡ 48 + m = unfold decimalIn in cc in omega arith
-inj-in (suc f) n m e = by (digits f n) (digits f m) (inj-in f (n / 10) (m / 10))
-  where
-    by : Digits f n → Digits f m → (decimalIn f (n / 10) ≡ decimalIn f (m / 10) → n / 10 ≡ m / 10) → n ≡ m
-    by (one l p) (one k q) ih = let d : 48 + n ≡ 48 + m = cc in omega arith
-    by (one l p) (more k q) ih =
-        let d : (48 + n) ∷ [] ≡ decimalIn f (m / 10) ++ ((48 + m % 10) ∷ []) = cc in
-        absurd (omega (arith, simp length-append at (ap length d), decimal-length f (m / 10) .0))
-    by (more l p) (one k q) ih =
-        let d : decimalIn f (n / 10) ++ ((48 + n % 10) ∷ []) ≡ (48 + m) ∷ [] = cc in
-        absurd (omega (arith, simp length-append at (ap length d), decimal-length f (n / 10) .0))
-    by (more l p) (more k q) ih =
-        let d : decimalIn f (n / 10) ++ ((48 + n % 10) ∷ []) ≡ decimalIn f (m / 10) ++ ((48 + m % 10) ∷ []) = cc in
-        let w = snoc-inj (decimalIn f (n / 10)) (decimalIn f (m / 10)) (48 + n % 10) (48 + m % 10) d in
-        omega (arith, ih (w .0), w .1)
-
--- two numbers are not written the same
-pub decimal-inj : (n m : ℕ) → decimal n ≡ decimal m → n ≡ m
-unfolding decimal
-decimal-inj n m e = inj-in 4 n m e
 
 -- a word of two letters or more is no number
 pub decimal-word : (n : ℕ) (s : List ℕ) (b : ℕ) → 1 ≤ length s → 57 < b → decimal n ≡ s ++ (b ∷ []) → ⊥
@@ -168,10 +149,12 @@ module _ (key : List ℕ) (low high : ℕ) (outside : Reason) {B : Type 0} (line
   -- a count that is read, and how the reading goes on
   pub record CountThen (file : List ℕ) (x : B) : Type 0 where
     pub count : ℕ
+    pub text : List ℕ
     pub rest : List ℕ
     pub least : low ≤ count
     pub most : count ≤ high
-    pub whole : file ≡ writtenLine key (decimal count) rest
+    pub number : numberOf text ≡ Is count
+    pub whole : file ≡ writtenLine key text rest
     pub goes : go count rest ≡ accepted x
 
   pub count-then : (file : List ℕ) (x : B) → Read file ≡ accepted x → CountThen file x
@@ -181,10 +164,12 @@ module _ (key : List ℕ) (low high : ℕ) (outside : Reason) {B : Type 0} (line
       let k : l .key ≡ key = same-eq (l .key) key (l .named) in
       record {
         count = l .value;
+        text = l .text;
         rest = l .rest;
         least = c .least;
         most = c .most;
-        whole = l .whole ∙ rw (k, c .text);
+        number = c .number;
+        whole = l .whole ∙ rw k;
         goes = l .goes;
       }
 
@@ -207,7 +192,7 @@ module _ (key : List ℕ) (low high : ℕ) (outside : Reason) {B : Type 0} (line
     count-range x e =
         let w = parsed-accepted (countForm low high outside (decimal n)) line (λ m. go m rest) x (sym written ∙ e) in
         let c = count-read low high outside (decimal n) (w .0) (w .1) in
-        let q : n ≡ w .0 = decimal-inj n (w .0) (c .text) in
+        let q : n ≡ w .0 = number-own n (w .0) (c .number) in
         rw q (c .least, c .most, w .2)
 
 -- what a call ensures of a count's line, and what is known of its result

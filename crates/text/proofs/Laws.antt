@@ -1,14 +1,16 @@
--- What crates above cite of texts: the numbered lines of a file, element by element, and how long written things are. Assumes nothing.
-use mathlib.Core.Path.{_≡_}
+-- What crates above cite of texts: the numbered lines of a file, element by element, the digits of a written number, and how long written
+-- things are. Assumes nothing.
+use mathlib.Core.Path.{_≡_, refl}
 use mathlib.Core.Bool.{Bool}
 use mathlib.Core.List.{List, [], _∷_, _++_}
-use Prim.Native.Nat.{ℕ, zero, suc, _+_, _*_, _≤_, _<_}
+use Prim.Native.Nat.{ℕ, zero, suc, _+_, _*_, _/_, _%_, _≤_, _<_}
 use native.Mathlib.Nat.{add-zero, suc-mul}
 use native.Mathlib.Omega.{arith}
+use native.Mathlib.Decide.{decLt}
 use lib.ListN.{length, getD, length-append, length-map}
+use borrow.Author.Tests.{lt-ltb, le-ltb}
 use Rattle.tables.specs.Choice.{pick}
-use Rattle.text.specs.Written.{decimal, digitsText, writtenLine, writtenBody}
-use Rattle.text.proofs.Numbers.{decimal-length}
+use Rattle.text.specs.Written.{decimalIn, decimal, digitsText, writtenLine, writtenBody}
 use Rattle.text.specs.Body.{EachAt}
 
 module _ {A : Type 0} (Ok : ℕ → A → Type 0) (d : A) where
@@ -26,6 +28,28 @@ module _ {A : Type 0} (Ok : ℕ → A → Type 0) (d : A) where
 pub ok-more : {A : Type 0} (Ok : ℕ → A → Type 0) (xs : List A) (x : A) (k : ℕ) → EachAt Ok k xs → Ok (k + length xs) x → EachAt Ok k (xs ++ (x ∷ []))
 ok-more Ok [] x k ok o = (rw add-zero at o, tt)
 ok-more Ok (y ∷ ys) x k ok o = (ok .0, ok-more Ok ys x (k + 1) (ok .1) (let e : k + suc (length ys) ≡ k + 1 + length ys = omega arith in rw e at o))
+
+-- ---- the digits of a written number
+
+pub decimal-small : (f n : ℕ) → n < 10 → decimalIn f n ≡ (48 + n) ∷ []
+unfolding decimalIn
+decimal-small zero n h = refl
+decimal-small (suc f) n h = rw (lt-ltb n 10 h)
+
+pub decimal-large : (f n : ℕ) → 10 ≤ n → decimalIn (suc f) n ≡ decimalIn f (n / 10) ++ ((48 + n % 10) ∷ [])
+unfolding decimalIn
+decimal-large f n h = rw (le-ltb n 10 h)
+
+pub length-step : (f n : ℕ) → (1 ≤ length (decimalIn f (n / 10))) × (length (decimalIn f (n / 10)) ≤ suc f) → Dec (n < 10)
+    → (1 ≤ length (decimalIn (suc f) n)) × (length (decimalIn (suc f) n) ≤ suc (suc f)) × (10 ≤ n → 2 ≤ length (decimalIn (suc f) n))
+length-step f n ih (yes l) = rw (decimal-small (suc f) n l) (omega arith)
+length-step f n ih (no g) =
+    let l : 10 ≤ n = omega arith in
+    rw (decimal-large f n l) (simp length-append (omega (arith, ih .0, ih .1)))
+
+pub decimal-length : (f n : ℕ) → (1 ≤ length (decimalIn f n)) × (length (decimalIn f n) ≤ suc f)
+decimal-length zero n = unfold decimalIn in omega arith
+decimal-length (suc f) n = let w = length-step f n (decimal-length f (n / 10)) (decLt n 10) in (w .0, w .1)
 
 -- ---- lengths
 

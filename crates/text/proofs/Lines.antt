@@ -27,7 +27,8 @@ use Rattle.text.specs.declared.number.Number.the-variants.{Is, Not}
 use Rattle.text.specs.declared.search.Found.the-variants.{At, Nothing}
 use Rattle.tables.proofs.Choices.{clash, each-pick, pick-both}
 use Rattle.text.proofs.Searching.{hit, each-found, further-inv}
-use Rattle.text.proofs.Numbers.{number-written, number-read, decimal-small, decimal-large, tenth}
+use Rattle.text.proofs.Numbers.{number-written, number-read, tenth}
+use Rattle.text.proofs.Laws.{decimal-small, decimal-large}
 
 -- ---- a byte that does not stand in a text
 

@@ -9,7 +9,7 @@ use native.Mathlib.Numerals.{add-one}
 use native.Mathlib.Omega.{arith}
 use native.Mathlib.Decide.{decLt, ℕ-discrete}
 use lib.Dec.{ltb, eqb}
-use lib.ListN.{length, getD, drop, length-append}
+use lib.ListN.{length, getD, drop}
 use lib.Seq.{drop-cons, drop-length}
 use borrow.Author.Tests.{lt-ltb, le-ltb, eq-eqb, ne-eqb}
 use Rattle.tables.specs.Choice.{pick}
@@ -18,6 +18,7 @@ use Rattle.text.specs.Written.{decimalIn, decimal}
 use Rattle.text.specs.declared.number.Number.{Number}
 use Rattle.text.specs.declared.number.Number.the-variants.{Is, Not}
 use Rattle.tables.proofs.Choices.{clash}
+use Rattle.text.proofs.Laws.{decimal-small, decimal-large, decimal-length, length-step}
 
 -- the digits of s, at most five, are read up to i, with the value v
 pub record DigitsAt (s : List ℕ) (v i : ℕ) : Type 0 where
@@ -131,26 +132,7 @@ unfolding decimalIn
 written-digits zero n h = digit-one 0 n (omega arith) ∙ ap Is (omega arith)
 written-digits (suc f) n h = digits-step f n (written-digits f (n / 10) (tenth f n h)) (decLt n 10)
 
--- its length and its first digit
-pub decimal-small : (f n : ℕ) → n < 10 → decimalIn f n ≡ (48 + n) ∷ []
-unfolding decimalIn
-decimal-small zero n h = refl
-decimal-small (suc f) n h = rw (lt-ltb n 10 h)
-
-pub decimal-large : (f n : ℕ) → 10 ≤ n → decimalIn (suc f) n ≡ decimalIn f (n / 10) ++ ((48 + n % 10) ∷ [])
-unfolding decimalIn
-decimal-large f n h = rw (le-ltb n 10 h)
-
-length-step : (f n : ℕ) → (1 ≤ length (decimalIn f (n / 10))) × (length (decimalIn f (n / 10)) ≤ suc f) → Dec (n < 10) → (1 ≤ length (decimalIn (suc f) n)) × (length (decimalIn (suc f) n) ≤ suc (suc f)) × (10 ≤ n → 2 ≤ length (decimalIn (suc f) n))
-length-step f n ih (yes l) = rw (decimal-small (suc f) n l) (omega arith)
-length-step f n ih (no g) =
-    let l : 10 ≤ n = omega arith in
-    rw (decimal-large f n l) (simp length-append (omega (arith, ih .0, ih .1)))
-
-pub decimal-length : (f n : ℕ) → (1 ≤ length (decimalIn f n)) × (length (decimalIn f n) ≤ suc f)
-decimal-length zero n = unfold decimalIn in omega arith
-decimal-length (suc f) n = let w = length-step f n (decimal-length f (n / 10)) (decLt n 10) in (w .0, w .1)
-
+-- its first digit
 head-append : (s t : List ℕ) → 1 ≤ length s → getD (s ++ t) 0 0 ≡ getD s 0 0
 head-append [] t h = absurd (omega arith)
 head-append (x ∷ xs) t h = refl
@@ -181,7 +163,42 @@ unfolding decimal
 number-written n h =
     sym (written-step n h (decLt n 10)) ∙ (digits-all (decimalIn 4 n) (decimal-length 4 n .1) ∙ written-digits 4 n (omega arith))
 
--- nothing else is read
+-- ---- a written number is read as itself, also one of more than five digits, where it is read at all
+
+large-digits : (f n : ℕ) → 10 ^ suc f ≤ n → digitsFrom 0 (decimalIn f n) ≡ Not
+unfolding decimalIn digitsFrom
+large-digits zero n h =
+    let l : 48 ≤ 48 + n = omega arith in
+    let u : 57 < 48 + n = omega arith in
+    rw (le-ltb (48 + n) 48 l, lt-ltb 57 (48 + n) u)
+large-digits (suc f) n h =
+    let p : 10 ^ suc (suc f) ≡ 10 ^ suc f * 10 = pow-suc 10 (suc f) in
+    let q : 10 ^ 1 ≤ 10 ^ suc f = pow-le-pow-right (omega arith) {i = 1} (omega arith) in
+    let t : 10 ^ suc f ≤ n / 10 = omega arith in
+    rw (decimal-large f n (omega arith), digits-append, large-digits f (n / 10) t)
+
+pub digits-own : (a n : ℕ) → digitsOf (decimal a) ≡ Is n → a ≡ n
+unfolding decimal
+digits-own a n e = by (decLt a 100000) (sym (digits-all (decimalIn 4 a) (decimal-length 4 a .1)) ∙ e)
+  where
+    by : Dec (a < 100000) → digitsFrom 0 (decimalIn 4 a) ≡ Is n → a ≡ n
+    by (yes l) d = let q : Is a ≡ Is n = sym (written-digits 4 a (omega arith)) ∙ d in cc
+    by (no g) d = let q : Not ≡ Is n = sym (large-digits 4 a (omega arith)) ∙ d in clash (cc)
+
+zero-case : (d n : ℕ) (x : Number) → Dec (d ≡ 48) → pick (eqb d 48) Not x ≡ Is n → (d ≡ 48 → ⊥) × (x ≡ Is n)
+zero-case d n x (yes q) e = clash (cc (rw (eq-eqb d 48 q) at e))
+zero-case d n x (no q) e = (q, rw (ne-eqb d 48 q) at e)
+
+number-digits : (s : List ℕ) (n : ℕ) → numberOf s ≡ Is n → digitsOf s ≡ Is n
+unfolding numberOf
+number-digits [] n e = clash (cc)
+number-digits (d ∷ []) n e = e
+number-digits (d ∷ x ∷ ds) n e = zero-case d n (digitsOf (d ∷ x ∷ ds)) (ℕ-discrete d 48) e .1
+
+pub number-own : (a n : ℕ) → numberOf (decimal a) ≡ Is n → a ≡ n
+number-own a n e = digits-own a n (number-digits (decimal a) n e)
+
+-- ---- nothing else is read
 digit-case : (d : ℕ) (x : Number) (n : ℕ) → Dec (d < 48) → Dec (57 < d) → pick (ltb d 48) Not (pick (ltb 57 d) Not x) ≡ Is n → (48 ≤ d) × (d ≤ 57) × (x ≡ Is n)
 digit-case d x n (yes l) r e = clash (cc (rw (lt-ltb d 48 l) at e))
 digit-case d x n (no l) (yes r) e = let k : 48 ≤ d = omega arith in clash (cc (rw (le-ltb d 48 k, lt-ltb 57 d r) at e))
@@ -259,10 +276,6 @@ digits-inv : (s : List ℕ) (n : ℕ) → Dec (5 < length s) → digitsOf s ≡ 
 unfolding digitsOf
 digits-inv s n (yes l) e = clash (cc (rw (lt-ltb 5 (length s) l) at e))
 digits-inv s n (no g) e = let l : length s ≤ 5 = omega arith in (l, rw (le-ltb 5 (length s) l) at e)
-
-zero-case : (d n : ℕ) (x : Number) → Dec (d ≡ 48) → pick (eqb d 48) Not x ≡ Is n → (d ≡ 48 → ⊥) × (x ≡ Is n)
-zero-case d n x (yes q) e = clash (cc (rw (eq-eqb d 48 q) at e))
-zero-case d n x (no q) e = (q, rw (ne-eqb d 48 q) at e)
 
 pub number-read : (s : List ℕ) (n : ℕ) → numberOf s ≡ Is n → s ≡ decimal n
 unfolding numberOf decimal

@@ -8,8 +8,7 @@ use native.Mathlib.Omega.{arith}
 use lib.ListN.{length, getD, set, take, drop, length-append, length-set, length-take, take-append-drop, length-map, List·getD-map}
 use lib.Seq.{paste, paste-suc, length-paste, take-paste, drop-paste, take-all, take-suc, drop-drop, drop-set-lt, take-suc-set, length-take-le, getD-take}
 use borrow.Author.Tests.{lt-ltb, le-ltb, le-leb, lt-leb}
-use Rattle.text.proofs.Laws.{line-length}
-use Rattle.text.proofs.Numbers.{decimal-large}
+use Rattle.text.proofs.Laws.{decimal-large, line-length}
 use Rattle.text.specs.Written.{decimalIn, decimal, writtenLine, writtenBody}
 use Rattle.tables.specs.declared.row.Row.{Row}
 use Rattle.rule_row.specs.Written.{writtenRow}

@@ -1,6 +1,6 @@
 use mathlib.Core.Path.{refl, ap, _∙_}
 use Rattle.rule_file.specs.Rule.{parseRule}
-use Rattle.rule_file.proofs.Rules.{rule-said, rule-is, rule-read}
+use Rattle.rule_file.proofs.Rules.{rule-said, rule-is, rule-valid}
 use Rattle.answer_code.specs.Code.{bytesCode}
 use Rattle.rule_and_take.proofs.Files.{file-refused, file-read}
 use borrow.Author.Needs.{needs}
@@ -8,7 +8,10 @@ use Rattle.citronhelm.proofs.citronhelm_normal.Statement.{statement}
 use Rattle.citronhelm.proofs.citronhelm_normal.Tie as tie
 
 write-form-requires : tie.Need-write-form-requires
-write-form-requires c κs = let p = parseRule (c .before .before .before .before .before .before .before .args .rule .now) in rule-read _ _ (rule-is p (c .before .before .before .before .read-rule .result) (c .before .before .before .before .read-rule .ensures) (c .before .before .enum-told .given .1)) .1 .in-range
+write-form-requires c κs =
+    let p = parseRule (c .before .before .before .before .before .before .before .args .rule .now) in
+    let read = c .before .before .before .before .read-rule in
+    rule-valid _ _ (rule-is p (read .result) (read .ensures) (c .before .before .enum-told .given .1)) .in-range
 
 returns : tie.Need-returns
 returns c = let p = parseRule (c .before .before .before .before .before .before .before .args .rule .now) in file-refused 1 p _ _ (rule-said p (c .before .before .before .before .read-rule .result) (c .before .before .before .before .read-rule .ensures) (c .before .before .outcome .given .1)) (c .refusal-code .ensures, refl)

@@ -1,6 +1,6 @@
 use mathlib.Core.Path.{ap}
 use Rattle.rule_file.specs.Rule.{parseRule}
-use Rattle.rule_file.proofs.Rules.{rule-read, rule-said, rule-is}
+use Rattle.rule_file.proofs.Rules.{rule-valid, rule-said, rule-is}
 use Rattle.tables.specs.declared.row.NormalForm.{NormalForm}
 use Rattle.rule_and_take.proofs.Files.{file-refused, file-read}
 use borrow.Author.Needs.{needs}
@@ -8,7 +8,10 @@ use Rattle.citronhelm.proofs.citronhelm_rows.Statement.{statement}
 use Rattle.citronhelm.proofs.citronhelm_rows.Tie as tie
 
 normal-form-requires : tie.Need-normal-form-requires
-normal-form-requires c κs = let p = parseRule (c .before .before .before .before .args .rule .now) in rule-read _ _ (rule-is p (c .before .before .read-rule .result) (c .before .before .read-rule .ensures) (c .enum-told .given .1)) .1 .in-range
+normal-form-requires c κs =
+    let p = parseRule (c .before .before .before .before .args .rule .now) in
+    let read = c .before .before .read-rule in
+    rule-valid _ _ (rule-is p (read .result) (read .ensures) (c .enum-told .given .1)) .in-range
 
 returns : tie.Need-returns
 returns c = let p = parseRule (c .before .before .before .before .before .before .args .rule .now) in file-refused 1 p _ _ (rule-said p (c .before .before .before .before .read-rule .result) (c .before .before .before .before .read-rule .ensures) (c .before .before .outcome .given .1)) (c .refusal-code .ensures)
