@@ -154,5 +154,5 @@ module _ (f : Formula) (t : Trace) (a : Activation) (rule : FormulaValid f) (tak
 
   pub make-computed : (before : List ℕ) → Makes f t before (overlaid (writtenSheet a) before) (answerOf (writtenAnswer (writtenSheet a) before))
   make-computed before =
-      let tables : pairOutcome Either f t ≡ Accepted = rw (rule-written f rule, take-written t take) (sym (agree (f .signals) (t .signals) (c .signals))) in
+      let tables : pairOutcome Either f t ≡ Accepted = rw (rule-written f rule, take-written t take, sym (agree (f .signals) (t .signals) (c .signals))) refl in
       rw tables (sheet satisfied a made refl refl)
