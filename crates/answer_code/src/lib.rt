@@ -13,7 +13,7 @@ use writing::answer::Bytes;
 
 // Which normal form is asked for.
 pub fn sign_named(negated: u8) -> Sign
-    ensures { λ r. ⌜ r ≡ signOf negated ⌝ }
+    ensures answer { λ r. ⌜ r ≡ signOf negated ⌝ }
 {
     if negated == 0 {
         return Sign::Plain;
@@ -22,7 +22,7 @@ pub fn sign_named(negated: u8) -> Sign
 }
 
 pub fn refusal_code(refusal: Refusal) -> u64
-    ensures { λ r. ⌜ r ≡ refusalCode refusal ⌝ }
+    ensures answer { λ r. ⌜ r ≡ refusalCode refusal ⌝ }
 {
     let reason = refusal.reason;
     let number = tables::refusal::reason_number(reason);
@@ -31,7 +31,7 @@ pub fn refusal_code(refusal: Refusal) -> u64
 }
 
 pub fn outcome_code(outcome: Outcome) -> u64
-    ensures { λ r. ⌜ r ≡ outcomeCode outcome ⌝ }
+    ensures answer { λ r. ⌜ r ≡ outcomeCode outcome ⌝ }
 {
     match outcome {
         Outcome::Accepted => 0,
@@ -40,7 +40,7 @@ pub fn outcome_code(outcome: Outcome) -> u64
 }
 
 pub fn bytes_code(answer: Bytes) -> u64
-    ensures { λ r. ⌜ r ≡ bytesCode answer ⌝ }
+    ensures answer { λ r. ⌜ r ≡ bytesCode answer ⌝ }
 {
     match answer {
         Bytes::Count(n) => n as u64,
@@ -49,7 +49,7 @@ pub fn bytes_code(answer: Bytes) -> u64
 }
 
 fn verdict_code(verdict: Verdict) -> u64
-    ensures { λ r. ⌜ r ≡ verdictCode verdict ⌝ }
+    ensures answer { λ r. ⌜ r ≡ verdictCode verdict ⌝ }
 {
     match verdict {
         Verdict::Holds => 1,
@@ -61,7 +61,7 @@ fn verdict_code(verdict: Verdict) -> u64
 }
 
 pub fn judge_code(answer: Answer) -> u64
-    ensures { λ r. ⌜ r ≡ judgeCode answer ⌝ }
+    ensures answer { λ r. ⌜ r ≡ judgeCode answer ⌝ }
 {
     match answer {
         Answer::Judged(verdict) => verdict_code(verdict),
@@ -70,7 +70,7 @@ pub fn judge_code(answer: Answer) -> u64
 }
 
 pub fn maker_code(answer: MakerAnswer) -> u64
-    ensures { λ r. ⌜ r ≡ makerCode answer ⌝ }
+    ensures answer { λ r. ⌜ r ≡ makerCode answer ⌝ }
 {
     match answer {
         MakerAnswer::Written(n) => n as u64,
@@ -80,7 +80,7 @@ pub fn maker_code(answer: MakerAnswer) -> u64
 }
 
 fn finding_code(finding: Finding) -> u64
-    ensures { λ r. ⌜ r ≡ findingCode finding ⌝ }
+    ensures answer { λ r. ⌜ r ≡ findingCode finding ⌝ }
 {
     match finding {
         Finding::Root => 1,
@@ -92,7 +92,7 @@ fn finding_code(finding: Finding) -> u64
 }
 
 pub fn check_code(answer: CheckAnswer) -> u64
-    ensures { λ r. ⌜ r ≡ checkCode answer ⌝ }
+    ensures answer { λ r. ⌜ r ≡ checkCode answer ⌝ }
 {
     match answer {
         CheckAnswer::Checked(finding) => finding_code(finding),

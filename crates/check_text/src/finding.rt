@@ -14,8 +14,8 @@ use writing::line::put_text_line;
 
 fn put_word(buf: &mut [u8], finding: Finding) -> usize
     requires { ⌜ 16 ≤ length (now buf) ⌝ }
-    ensures { λ r. ⌜ Wrote (now (buf .entry)) 0 (writtenLine (bytes "finding") (findingWord finding) []) (now (buf .exit)) r ⌝ }
-    ensures { λ r. ⌜ r ≤ 16 ⌝ }
+    ensures text { λ r. ⌜ Wrote (now (buf .entry)) 0 (writtenLine (bytes "finding") (findingWord finding) []) (now (buf .exit)) r ⌝ }
+    ensures room { λ r. ⌜ r ≤ 16 ⌝ }
 {
     match finding {
         Finding::Root => put_text_line(buf, 0, b"finding", b"root"),
@@ -28,7 +28,7 @@ fn put_word(buf: &mut [u8], finding: Finding) -> usize
 
 fn put_place(buf: &mut [u8], at: usize, finding: Finding) -> usize
     requires { ⌜ (at + 18 ≤ length (now buf)) × CycleBelow 1000 finding ⌝ }
-    ensures { λ r. ⌜ Wrote (now (buf .entry)) at (findingPlace finding) (now (buf .exit)) r ⌝ }
+    ensures text { λ r. ⌜ Wrote (now (buf .entry)) at (findingPlace finding) (now (buf .exit)) r ⌝ }
 {
     match finding {
         Finding::Root => at,
@@ -45,7 +45,7 @@ fn put_place(buf: &mut [u8], at: usize, finding: Finding) -> usize
 // All of them, at the buffer's start.
 fn put_finding(buf: &mut [u8], finding: Finding) -> usize
     requires { ⌜ (64 ≤ length (now buf)) × CycleBelow 1000 finding ⌝ }
-    ensures { λ r. ⌜ Wrote (now (buf .entry)) 0 (findingText finding) (now (buf .exit)) r ⌝ }
+    ensures text { λ r. ⌜ Wrote (now (buf .entry)) 0 (findingText finding) (now (buf .exit)) r ⌝ }
 {
     let word = finding;
     let i = put_word(&mut *buf, word);

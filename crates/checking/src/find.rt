@@ -16,7 +16,7 @@ ghost use Rattle.checking.specs.Conclusion.{concluded, courseOf};
 
 fn course_of(cycles: u16, ending: Ending) -> Course
     requires { ⌜ (cycles ≤ 256) × LoopBelow cycles ending ⌝ }
-    ensures { λ r. ⌜ r ≡ courseOf cycles ending ⌝ }
+    ensures answer { λ r. ⌜ r ≡ courseOf cycles ending ⌝ }
 {
     match ending {
         Ending::Open => Course {
@@ -35,7 +35,7 @@ fn course_of(cycles: u16, ending: Ending) -> Course
 }
 
 fn conclude(survey: Survey, end: u16, ending: Ending) -> Finding
-    ensures { λ r. ⌜ r ≡ concluded ending end survey ⌝ }
+    ensures answer { λ r. ⌜ r ≡ concluded ending end survey ⌝ }
 {
     if survey.cycle < end {
         return Finding::Failed(survey.failed, survey.cycle);
@@ -58,7 +58,7 @@ fn conclude(survey: Survey, end: u16, ending: Ending) -> Finding
 
 pub fn find(form: NormalForm, trace: Trace, sheet: Activation) -> Finding
     requires { ⌜ InNormalForm form × InRange trace ⌝ }
-    ensures { λ r. ⌜ FindingOf form trace sheet r ⌝ }
+    ensures finding { λ r. ⌜ FindingOf form trace sheet r ⌝ }
 {
     let active = sheet.lanes;
     let root = form.rows as usize - 1;

@@ -26,7 +26,7 @@ pub struct Survey {
 
 // The first row that is marked.
 fn first_marked(first: u8, marked: bool, number: u8) -> u8
-    ensures { λ r. ⌜ r ≡ pick (marked && eqb first 0) number first ⌝ }
+    ensures answer { λ r. ⌜ r ≡ pick (marked && eqb first 0) number first ⌝ }
 {
     if marked & (first == 0) {
         return number;
@@ -36,7 +36,7 @@ fn first_marked(first: u8, marked: bool, number: u8) -> u8
 
 // One row more.
 fn note(survey: Survey, number: u8, report: RowReport) -> Survey
-    ensures { λ r. ⌜ r ≡ noted survey number report ⌝ }
+    ensures answer { λ r. ⌜ r ≡ noted survey number report ⌝ }
 {
     let starved = first_marked(survey.starved, !report.accepted, number);
     let pending = first_marked(survey.pending, report.pending, number);
@@ -59,7 +59,7 @@ fn note(survey: Survey, number: u8, report: RowReport) -> Survey
 // Rows are independent of one another: a monitor reads its own pending and all rows' activators, which the sheet gives.
 pub fn survey_rows(form: NormalForm, trace: Trace, sheet: Activation, course: Course) -> Survey
     requires { ⌜ InNormalForm form × CourseOf course ⌝ }
-    ensures { λ r. ⌜ SurveyTo form trace sheet course (form .rows) r ⌝ }
+    ensures survey { λ r. ⌜ SurveyTo form trace sheet course (form .rows) r ⌝ }
 {
     let signals = trace.lanes;
     let active = sheet.lanes;

@@ -8,7 +8,7 @@ ghost use Rattle.io.specs.Counts.{Counts};
 // fails, what came before stays.
 pub fn load(path: &[u8], buf: &mut [u8]) -> usize
     requires { ⌜ 65536 < length (now buf) ⌝ }
-    ensures { λ r. ⌜ Counts r (now (buf .exit)) ⌝ }
+    ensures counts { λ r. ⌜ Counts r (now (buf .exit)) ⌝ }
 {
     let fd = os::open_read(path);
     if fd < 0 {

@@ -16,8 +16,8 @@ use writing::line::put_text_line;
 
 fn put_word(buf: &mut [u8], at: usize, verdict: Verdict) -> usize
     requires { ⌜ at + 15 ≤ length (now buf) ⌝ }
-    ensures { λ r. ⌜ Wrote (now (buf .entry)) at (writtenLine (bytes "verdict") (verdictWord verdict) []) (now (buf .exit)) r ⌝ }
-    ensures { λ r. ⌜ r ≤ at + 15 ⌝ }
+    ensures text { λ r. ⌜ Wrote (now (buf .entry)) at (writtenLine (bytes "verdict") (verdictWord verdict) []) (now (buf .exit)) r ⌝ }
+    ensures room { λ r. ⌜ r ≤ at + 15 ⌝ }
 {
     match verdict {
         Verdict::Holds => put_text_line(buf, at, b"verdict", b"holds"),
@@ -38,8 +38,8 @@ fn put_verdict(
     verdict: Verdict,
 ) -> usize
     requires { ⌜ (64 ≤ length (now buf)) × (cycles < 1000) × Below 1000 ending ⌝ }
-    ensures { λ r. ⌜ Wrote (now (buf .entry)) 0 (verdictText signals rows cycles ending verdict) (now (buf .exit)) r ⌝ }
-    ensures { λ r. ⌜ r ≤ 64 ⌝ }
+    ensures text { λ r. ⌜ Wrote (now (buf .entry)) 0 (verdictText signals rows cycles ending verdict) (now (buf .exit)) r ⌝ }
+    ensures room { λ r. ⌜ r ≤ 64 ⌝ }
 {
     let a = put_number_line(&mut *buf, 0, b"signals", signals as u32);
     let b = put_number_line(&mut *buf, a, b"rows", rows as u32);

@@ -10,7 +10,7 @@ ghost use Rattle.lanes.specs.Word.{Ends};
 
 pub fn bit(lane: Lane, cycle: usize) -> bool
     requires { ⌜ cycle < 256 ⌝ }
-    ensures { λ r. ⌜ r ≡ bitAt lane cycle ⌝ }
+    ensures answer { λ r. ⌜ r ≡ bitAt lane cycle ⌝ }
 {
     let words = lane.words;
     (words[cycle / 64] >> (cycle % 64)) % 2 == 1
@@ -18,7 +18,7 @@ pub fn bit(lane: Lane, cycle: usize) -> bool
 
 // The first lane may be any: only its bits at the second one's cycles count.
 pub fn both(a: Lane, b: Lane) -> Lane
-    ensures { λ r. ⌜ ((g : ℕ → Bool) → b ≡ laneOf g → r ≡ laneOf (λ i. bitAt a i && g i)) ⌝ }
+    ensures lane { λ r. ⌜ ((g : ℕ → Bool) → b ≡ laneOf g → r ≡ laneOf (λ i. bitAt a i && g i)) ⌝ }
 {
     let p = a.words;
     let q = b.words;
@@ -28,7 +28,7 @@ pub fn both(a: Lane, b: Lane) -> Lane
 }
 
 pub fn either(a: Lane, b: Lane) -> Lane
-    ensures { λ r. ⌜ ((f g : ℕ → Bool) → a ≡ laneOf f → b ≡ laneOf g → r ≡ laneOf (λ i. f i || g i)) ⌝ }
+    ensures lane { λ r. ⌜ ((f g : ℕ → Bool) → a ≡ laneOf f → b ≡ laneOf g → r ≡ laneOf (λ i. f i || g i)) ⌝ }
 {
     let p = a.words;
     let q = b.words;
@@ -39,7 +39,7 @@ pub fn either(a: Lane, b: Lane) -> Lane
 
 // The first and not the second.
 pub fn without(a: Lane, b: Lane) -> Lane
-    ensures { λ r. ⌜ ((f g : ℕ → Bool) → a ≡ laneOf f → b ≡ laneOf g → r ≡ laneOf (λ i. f i && not (g i))) ⌝ }
+    ensures lane { λ r. ⌜ ((f g : ℕ → Bool) → a ≡ laneOf f → b ≡ laneOf g → r ≡ laneOf (λ i. f i && not (g i))) ⌝ }
 {
     let p = a.words;
     let q = b.words;
@@ -55,7 +55,7 @@ pub fn without(a: Lane, b: Lane) -> Lane
 
 // At each cycle: the goal is met there or later, with keep up to it.
 pub fn carry(keep: Lane, goal: Lane) -> Lane
-    ensures { λ r. ⌜ ((k g : ℕ → Bool) → keep ≡ laneOf k → goal ≡ laneOf g → r ≡ laneOf (λ i. approximant k g false (256 - i) i)) ⌝ }
+    ensures lane { λ r. ⌜ ((k g : ℕ → Bool) → keep ≡ laneOf k → goal ≡ laneOf g → r ≡ laneOf (λ i. approximant k g false (256 - i) i)) ⌝ }
 {
     let k = keep.words;
     let g = goal.words;
@@ -70,7 +70,7 @@ pub fn carry(keep: Lane, goal: Lane) -> Lane
 
 // What holds one cycle later, and nothing behind the last.
 pub fn next(lane: Lane) -> Lane
-    ensures { λ r. ⌜ ((f : ℕ → Bool) → f 256 ≡ false → lane ≡ laneOf f → r ≡ laneOf (λ i. f (suc i))) ⌝ }
+    ensures lane { λ r. ⌜ ((f : ℕ → Bool) → f 256 ≡ false → lane ≡ laneOf f → r ≡ laneOf (λ i. f (suc i))) ⌝ }
 {
     let w = lane.words;
     let a = crate::word::next_from(w[0], w[1]);
@@ -84,7 +84,7 @@ pub fn next(lane: Lane) -> Lane
 
 // No cycle.
 pub fn none() -> Lane
-    ensures { λ r. ⌜ r ≡ laneOf (λ i. false) ⌝ }
+    ensures answer { λ r. ⌜ r ≡ laneOf (λ i. false) ⌝ }
 {
     Lane { words: [0; 4] }
 }
@@ -92,7 +92,7 @@ pub fn none() -> Lane
 // One cycle alone.
 pub fn single(cycle: usize) -> Lane
     requires { ⌜ cycle < 256 ⌝ }
-    ensures { λ r. ⌜ r ≡ laneOf (λ i. eqb i cycle) ⌝ }
+    ensures answer { λ r. ⌜ r ≡ laneOf (λ i. eqb i cycle) ⌝ }
 {
     tables::trace::with_bit(none(), cycle)
 }
@@ -100,7 +100,7 @@ pub fn single(cycle: usize) -> Lane
 // The last of so many cycles alone.
 pub fn last(cycles: usize) -> Lane
     requires { ⌜ (1 ≤ cycles) × (cycles ≤ 256) ⌝ }
-    ensures { λ r. ⌜ r ≡ laneOf (λ i. eqb (suc i) cycles) ⌝ }
+    ensures answer { λ r. ⌜ r ≡ laneOf (λ i. eqb (suc i) cycles) ⌝ }
 {
     single(cycles - 1)
 }
@@ -108,7 +108,7 @@ pub fn last(cycles: usize) -> Lane
 // Until over a recording of n cycles: at each of them the goal is met there or later, with keep up to it, or keep goes on to the end
 // and `ahead` holds behind it. `last` is the last cycle alone.
 pub fn until(keep: Lane, goal: Lane, last: Lane, ahead: bool) -> Lane
-    ensures { λ r. ⌜ ((n : ℕ) (k g : ℕ → Bool) → n ≤ 256 → Ends n k → Ends n g → keep ≡ laneOf k → goal ≡ laneOf g
+    ensures lane { λ r. ⌜ ((n : ℕ) (k g : ℕ → Bool) → n ≤ 256 → Ends n k → Ends n g → keep ≡ laneOf k → goal ≡ laneOf g
         → last ≡ laneOf (λ i. eqb (suc i) n) → r ≡ laneOf (λ i. ltb i n && approximant k g ahead (n - i) i)) ⌝ }
 {
     if ahead {
@@ -120,7 +120,7 @@ pub fn until(keep: Lane, goal: Lane, last: Lane, ahead: bool) -> Lane
 // So many cycles, all of them: those from which the last is still to come.
 pub fn all(cycles: usize) -> Lane
     requires { ⌜ (1 ≤ cycles) × (cycles ≤ 256) ⌝ }
-    ensures { λ r. ⌜ r ≡ laneOf (λ i. ltb i cycles) ⌝ }
+    ensures answer { λ r. ⌜ r ≡ laneOf (λ i. ltb i cycles) ⌝ }
 {
     let every = Lane {
         words: [0xffff_ffff_ffff_ffff; 4],

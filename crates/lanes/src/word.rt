@@ -17,7 +17,8 @@ pub struct Stretch {
 // Stretches twice as long, from those of s cycles: the goal in the first half, or keep through it and the goal in the second.
 fn twice(x: Stretch, s: u32) -> Stretch
     requires { ⌜ s < 64 ⌝ }
-    ensures { λ r. ⌜ (r .keep ≡ bitAnd (x .keep) (x .keep / 2 ^ s)) × (r .goal ≡ bitOr (x .goal) (bitAnd (x .keep) (x .goal / 2 ^ s))) ⌝ }
+    ensures answer { λ r. ⌜ (r .keep ≡ bitAnd (x .keep) (x .keep / 2 ^ s))
+        × (r .goal ≡ bitOr (x .goal) (bitAnd (x .keep) (x .goal / 2 ^ s))) ⌝ }
 {
     Stretch {
         keep: x.keep & (x.keep >> s),
@@ -27,7 +28,7 @@ fn twice(x: Stretch, s: u32) -> Stretch
 
 // At each cycle: the goal is met in this word, with keep up to it. Six doublings instead of 64 steps.
 pub fn carry_back(keep: u64, goal: u64) -> u64
-    ensures { λ r. ⌜ ((b : ℕ) (k g : ℕ → Bool) → Ends (b + 64) k → Ends (b + 64) g → keep ≡ wordFrom 64 b k → goal ≡ wordFrom 64 b g
+    ensures word { λ r. ⌜ ((b : ℕ) (k g : ℕ → Bool) → Ends (b + 64) k → Ends (b + 64) g → keep ≡ wordFrom 64 b k → goal ≡ wordFrom 64 b g
         → r ≡ wordFrom 64 b (approximant k g false 64)) ⌝ }
 {
     let one = Stretch { keep, goal };
@@ -42,7 +43,7 @@ pub fn carry_back(keep: u64, goal: u64) -> u64
 
 // The same over several words: `later` is the word behind this one, whose first bit says what holds there.
 pub fn carry_from(keep: u64, goal: u64, later: u64) -> u64
-    ensures { λ r. ⌜ ((b : ℕ) (k g : ℕ → Bool) (x : Bool) → keep ≡ wordFrom 64 b k → goal ≡ wordFrom 64 b g → later % 2 ≡ pick x 1 0
+    ensures word { λ r. ⌜ ((b : ℕ) (k g : ℕ → Bool) (x : Bool) → keep ≡ wordFrom 64 b k → goal ≡ wordFrom 64 b g → later % 2 ≡ pick x 1 0
         → r ≡ wordFrom 64 b (λ i. approximant k g x (b + 64 - i) i)) ⌝ }
 {
     if later % 2 == 1 {
@@ -53,7 +54,7 @@ pub fn carry_from(keep: u64, goal: u64, later: u64) -> u64
 
 // What holds one cycle later; the later word's first bit comes in at the top.
 pub fn next_from(word: u64, later: u64) -> u64
-    ensures { λ r. ⌜ ((b : ℕ) (f : ℕ → Bool) → word ≡ wordFrom 64 b f → later % 2 ≡ pick (f (b + 64)) 1 0
+    ensures word { λ r. ⌜ ((b : ℕ) (f : ℕ → Bool) → word ≡ wordFrom 64 b f → later % 2 ≡ pick (f (b + 64)) 1 0
         → r ≡ wordFrom 64 b (λ i. f (suc i))) ⌝ }
 {
     if later % 2 == 1 {

@@ -15,7 +15,7 @@ ghost use Rattle.rule_and_take.specs.File.{WasRead};
 
 fn load_rule(space: &mut [u8]) -> RuleAnswer
     requires { ⌜ 65536 < length (now space) ⌝ }
-    ensures { λ r. ⌜ ((file : List ℕ) × (r ≡ ruleAnswer (parseRule file))) ⌝ }
+    ensures read { λ r. ⌜ ((file : List ℕ) × (r ≡ ruleAnswer (parseRule file))) ⌝ }
 {
     let n = files::load(b"rule.txt", &mut *space);
     rule_file::rule::read_rule(&space[..n])
@@ -23,7 +23,7 @@ fn load_rule(space: &mut [u8]) -> RuleAnswer
 
 fn load_take(space: &mut [u8]) -> TakeAnswer
     requires { ⌜ 65536 < length (now space) ⌝ }
-    ensures { λ r. ⌜ ((file : List ℕ) × (r ≡ takeAnswer (parseTake file))) ⌝ }
+    ensures read { λ r. ⌜ ((file : List ℕ) × (r ≡ takeAnswer (parseTake file))) ⌝ }
 {
     let n = files::load(b"take.txt", &mut *space);
     take_file::take::read_take(&space[..n])
@@ -31,7 +31,7 @@ fn load_take(space: &mut [u8]) -> TakeAnswer
 
 fn load_sheet(space: &mut [u8]) -> SheetAnswer
     requires { ⌜ 65536 < length (now space) ⌝ }
-    ensures { λ r. ⌜ ((file : List ℕ) × (r ≡ sheetAnswer (parseSheet file))) ⌝ }
+    ensures read { λ r. ⌜ ((file : List ℕ) × (r ≡ sheetAnswer (parseSheet file))) ⌝ }
 {
     let n = files::load(b"sheet.txt", &mut *space);
     sheet_file::sheet::read_sheet(&space[..n])
@@ -39,7 +39,7 @@ fn load_sheet(space: &mut [u8]) -> SheetAnswer
 
 // `rule.txt`, as it was read.
 pub fn rule() -> RuleAnswer
-    ensures { λ r. ⌜ ((file : List ℕ) × (r ≡ ruleAnswer (parseRule file))) ⌝ }
+    ensures read { λ r. ⌜ ((file : List ℕ) × (r ≡ ruleAnswer (parseRule file))) ⌝ }
 {
     let mut space = [0u8; 65537];
     load_rule(&mut space)
@@ -47,7 +47,7 @@ pub fn rule() -> RuleAnswer
 
 // `rule.txt` and `take.txt`.
 pub fn pair() -> Pair
-    ensures { λ r. ⌜ WasRead r ⌝ }
+    ensures read { λ r. ⌜ WasRead r ⌝ }
 {
     let mut space = [0u8; 65537];
     let first = load_rule(&mut space);
@@ -57,7 +57,7 @@ pub fn pair() -> Pair
 
 // `sheet.txt`.
 pub fn sheet() -> SheetAnswer
-    ensures { λ r. ⌜ ((file : List ℕ) × (r ≡ sheetAnswer (parseSheet file))) ⌝ }
+    ensures read { λ r. ⌜ ((file : List ℕ) × (r ≡ sheetAnswer (parseSheet file))) ⌝ }
 {
     let mut space = [0u8; 65537];
     load_sheet(&mut space)

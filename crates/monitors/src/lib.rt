@@ -22,7 +22,7 @@ pub struct State {
 
 // What is not named is: pending 0, failed 0, accept 1.
 fn checks(failed: bool) -> Output
-    ensures { λ r. ⌜ r ≡ checksOf failed ⌝ }
+    ensures answer { λ r. ⌜ r ≡ checksOf failed ⌝ }
 {
     Output {
         failed,
@@ -32,7 +32,7 @@ fn checks(failed: bool) -> Output
 }
 
 fn waits(pending: bool, failed: bool) -> Output
-    ensures { λ r. ⌜ r ≡ waitsOf pending failed ⌝ }
+    ensures answer { λ r. ⌜ r ≡ waitsOf pending failed ⌝ }
 {
     Output {
         failed,
@@ -42,7 +42,7 @@ fn waits(pending: bool, failed: bool) -> Output
 }
 
 fn awaits(pending: bool, failed: bool) -> Output
-    ensures { λ r. ⌜ r ≡ awaitsOf pending failed ⌝ }
+    ensures answer { λ r. ⌜ r ≡ awaitsOf pending failed ⌝ }
 {
     Output {
         failed,
@@ -52,7 +52,7 @@ fn awaits(pending: bool, failed: bool) -> Output
 }
 
 pub fn constant(kind: ConstantKind, state: State) -> Output
-    ensures { λ r. ⌜ r ≡ constantMonitor kind state ⌝ }
+    ensures answer { λ r. ⌜ r ≡ constantMonitor kind state ⌝ }
 {
     match kind {
         ConstantKind::True => checks(false),
@@ -61,7 +61,7 @@ pub fn constant(kind: ConstantKind, state: State) -> Output
 }
 
 pub fn signal(kind: SignalKind, on: bool, state: State) -> Output
-    ensures { λ r. ⌜ r ≡ signalMonitor kind on state ⌝ }
+    ensures answer { λ r. ⌜ r ≡ signalMonitor kind on state ⌝ }
 {
     match kind {
         SignalKind::Sig => checks(state.active & !on),
@@ -70,7 +70,7 @@ pub fn signal(kind: SignalKind, on: bool, state: State) -> Output
 }
 
 pub fn unary(kind: UnaryKind, a: bool, state: State) -> Output
-    ensures { λ r. ⌜ r ≡ unaryMonitor kind a state ⌝ }
+    ensures answer { λ r. ⌜ r ≡ unaryMonitor kind a state ⌝ }
 {
     let goes = state.active | state.pending;
     match kind {
@@ -82,7 +82,7 @@ pub fn unary(kind: UnaryKind, a: bool, state: State) -> Output
 }
 
 pub fn binary(kind: BinaryKind, a: bool, b: bool, state: State) -> Output
-    ensures { λ r. ⌜ r ≡ binaryMonitor kind a b state ⌝ }
+    ensures answer { λ r. ⌜ r ≡ binaryMonitor kind a b state ⌝ }
 {
     let goes = state.active | state.pending;
     match kind {
@@ -98,7 +98,7 @@ pub fn binary(kind: BinaryKind, a: bool, b: bool, state: State) -> Output
 // The monitor of a row. `first` and `second` are what stands at the row's numbers in this cycle: the signal, or the activators of
 // its operands; what it has no number for does not count.
 pub fn row(row: Row, first: bool, second: bool, state: State) -> Output
-    ensures { λ r. ⌜ r ≡ rowMonitor row first second state ⌝ }
+    ensures answer { λ r. ⌜ r ≡ rowMonitor row first second state ⌝ }
 {
     match row {
         Row::Constant(kind) => constant(kind, state),

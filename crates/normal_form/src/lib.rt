@@ -14,7 +14,7 @@ pub mod sign;
 // The normal form of the formula (plain) or of its negation (negated).
 pub fn normal_form(formula: Formula, sign: Sign) -> NormalForm
     requires { ⌜ InRange formula ⌝ }
-    ensures { λ r. ⌜ r ≡ normalForm formula sign ⌝ }
+    ensures answer { λ r. ⌜ r ≡ normalForm formula sign ⌝ }
 {
     let marks = reach::reach(formula, sign);
     numbering::number_rows(formula, marks)

@@ -20,7 +20,7 @@ use tables::row::RowPlace;
 // A row with its operands' new numbers, each taken under the sign.
 fn renumber(numbers: &[u8; 128], row: Row, sign: Sign) -> Row
     requires { ⌜ Below 65 row ⌝ }
-    ensures { λ r. ⌜ r ≡ renumbered (now (numbers .entry)) sign row ⌝ }
+    ensures answer { λ r. ⌜ r ≡ renumbered (now (numbers .entry)) sign row ⌝ }
 {
     match row {
         Row::Constant(kind) => Row::Constant(kind),
@@ -43,7 +43,7 @@ fn renumber(numbers: &[u8; 128], row: Row, sign: Sign) -> Row
 // The number of the row that stands for a `not` row: that of its operand with the sign turned.
 fn shared_number(numbers: &[u8; 128], row: Row, sign: Sign) -> u8
     requires { ⌜ Below 65 row × (isNot row ≡ true) ⌝ }
-    ensures { λ r. ⌜ r ≡ numberIn (now (numbers .entry)) (firstNumber row) (turned sign) ⌝ }
+    ensures answer { λ r. ⌜ r ≡ numberIn (now (numbers .entry)) (firstNumber row) (turned sign) ⌝ }
 {
     let other = sign::turned(sign);
     let i = sign::slot(kind::first_number(row), other);
@@ -53,7 +53,7 @@ fn shared_number(numbers: &[u8; 128], row: Row, sign: Sign) -> u8
 // The row that stands for any other row: itself or its dual, with its operands' numbers.
 fn own_row(numbers: &[u8; 128], row: Row, sign: Sign) -> Row
     requires { ⌜ Below 65 row ⌝ }
-    ensures { λ r. ⌜ r ≡ renumbered (now (numbers .entry)) sign (signed sign row) ⌝ }
+    ensures answer { λ r. ⌜ r ≡ renumbered (now (numbers .entry)) sign (signed sign row) ⌝ }
 {
     let taken = row::signed_row(row, sign);
     renumber(numbers, taken, sign)
@@ -63,7 +63,7 @@ fn own_row(numbers: &[u8; 128], row: Row, sign: Sign) -> Row
 // a `not` row gets no row.
 pub fn number_rows(formula: Formula, marks: [bool; 128]) -> NormalForm
     requires { ⌜ InRange formula ⌝ }
-    ensures { λ r. ⌜ r ≡ listedForm (formula .signals) (listing marks (formula .places) (2 * formula .rows)) ⌝ }
+    ensures answer { λ r. ⌜ r ≡ listedForm (formula .signals) (listing marks (formula .places) (2 * formula .rows)) ⌝ }
 {
     let unused = Row::Constant(ConstantKind::True);
     let mut places = [RowPlace { row: unused }; 128];

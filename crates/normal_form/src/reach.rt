@@ -12,7 +12,7 @@ use tables::row::Row;
 // The operands of a row under a sign get their marks.
 fn mark_operands(marks: &mut [bool; 128], row: Row, sign: Sign)
     requires { ⌜ Below 65 row ⌝ }
-    ensures { λ _. ⌜ now (marks .exit) ≡ operandsMarked row sign (now (marks .entry)) ⌝ }
+    ensures left { λ _. ⌜ now (marks .exit) ≡ operandsMarked row sign (now (marks .entry)) ⌝ }
 {
     let under = row::operand_sign(row, sign);
     match row {
@@ -34,7 +34,7 @@ fn mark_operands(marks: &mut [bool; 128], row: Row, sign: Sign)
 // A mark for each slot that the root, taken with a sign, reaches. Operands are earlier rows, so one pass downward finds all.
 pub fn reach(formula: Formula, sign: Sign) -> [bool; 128]
     requires { ⌜ InRange formula ⌝ }
-    ensures { λ r. ⌜ r ≡ reachOf formula sign ⌝ }
+    ensures answer { λ r. ⌜ r ≡ reachOf formula sign ⌝ }
 {
     let mut marks = [false; 128];
     let root = sign::slot(formula.rows, sign);

@@ -8,7 +8,7 @@ use tables::row::Row;
 use tables::row::UnaryKind;
 
 pub fn is_not(row: Row) -> bool
-    ensures { λ r. ⌜ r ≡ isNot row ⌝ }
+    ensures answer { λ r. ⌜ r ≡ isNot row ⌝ }
 {
     match row {
         Row::Constant(_) => false,
@@ -25,7 +25,7 @@ pub fn is_not(row: Row) -> bool
 
 // The sign under which a row takes its operands: `not` turns it.
 pub fn operand_sign(row: Row, sign: Sign) -> Sign
-    ensures { λ r. ⌜ r ≡ operandSign row sign ⌝ }
+    ensures answer { λ r. ⌜ r ≡ operandSign row sign ⌝ }
 {
     if is_not(row) {
         return crate::sign::turned(sign);
@@ -35,7 +35,7 @@ pub fn operand_sign(row: Row, sign: Sign) -> Sign
 
 // The row itself, or its dual.
 pub fn signed_row(row: Row, sign: Sign) -> Row
-    ensures { λ r. ⌜ r ≡ signed sign row ⌝ }
+    ensures answer { λ r. ⌜ r ≡ signed sign row ⌝ }
 {
     match sign {
         Sign::Plain => row,

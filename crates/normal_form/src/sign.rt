@@ -10,7 +10,7 @@ pub enum Sign {
 }
 
 pub fn turned(sign: Sign) -> Sign
-    ensures { λ r. ⌜ r ≡ turnedOf sign ⌝ }
+    ensures answer { λ r. ⌜ r ≡ turnedOf sign ⌝ }
 {
     match sign {
         Sign::Plain => Sign::Negated,
@@ -21,7 +21,7 @@ pub fn turned(sign: Sign) -> Sign
 // Each row has two slots, in the normal form's order: rising by the row's number, plain before negated.
 pub fn slot(number: u8, sign: Sign) -> usize
     requires { ⌜ 1 ≤ number ⌝ }
-    ensures { λ r. ⌜ (r ≡ slotOf number sign) × (r < 2 * number) ⌝ }
+    ensures answer { λ r. ⌜ (r ≡ slotOf number sign) × (r < 2 * number) ⌝ }
 {
     let plain = 2 * (number as usize - 1);
     match sign {
@@ -32,7 +32,7 @@ pub fn slot(number: u8, sign: Sign) -> usize
 
 // The sign of a slot.
 pub fn sign_of(slot: usize) -> Sign
-    ensures { λ r. ⌜ r ≡ signOf slot ⌝ }
+    ensures answer { λ r. ⌜ r ≡ signOf slot ⌝ }
 {
     if slot % 2 == 0 {
         return Sign::Plain;

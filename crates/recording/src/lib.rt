@@ -19,14 +19,14 @@ pub fn empty() -> [u64; 128]
 
 fn power_of_two(k: usize) -> u64
     requires { ⌜ k < 64 ⌝ }
-    ensures { λ r. ⌜ r ≡ 2 ^ k ⌝ }
+    ensures answer { λ r. ⌜ r ≡ 2 ^ k ⌝ }
 {
     1u64 << k
 }
 
 // What a digit adds to a word: the bit of its cycle where it is 1.
 fn digit_bit(digit: u8, bit: u64) -> u64
-    ensures { λ r. ⌜ r ≡ pick (eqb digit 49) bit 0 ⌝ }
+    ensures answer { λ r. ⌜ r ≡ pick (eqb digit 49) bit 0 ⌝ }
 {
     if digit == b'1' { bit } else { 0 }
 }

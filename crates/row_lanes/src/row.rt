@@ -20,7 +20,7 @@ ghost use Rattle.row_lanes.specs.Pass.{nextPass, passBit, untilPass};
 // last one. One pass more would change nothing, since keep and goal repeat with the loop.
 fn temporal(keep: Lane, goal: Lane, weak: bool, span: Span) -> Lane
     requires { ⌜ LoopBelow 256 (span .ending) ⌝ }
-    ensures { λ r. ⌜ ((n : ℕ) (k g : ℕ → Bool) → SpanOf n span → Shows n keep k → Shows n goal g
+    ensures shows { λ r. ⌜ ((n : ℕ) (k g : ℕ → Bool) → SpanOf n span → Shows n keep k → Shows n goal g
         → Shows n r (untilPass n (span .ending) k g weak)) ⌝ }
 {
     let ending = span.ending;
@@ -37,7 +37,7 @@ fn temporal(keep: Lane, goal: Lane, weak: bool, span: Span) -> Lane
 // What a lane is at the cycle behind the last.
 fn entered(a: Lane, ending: Ending) -> bool
     requires { ⌜ LoopBelow 256 ending ⌝ }
-    ensures { λ r. ⌜ r ≡ bitBehind (bitAt a) ending ⌝ }
+    ensures answer { λ r. ⌜ r ≡ bitBehind (bitAt a) ending ⌝ }
 {
     match ending {
         Ending::Open => false,
@@ -48,7 +48,7 @@ fn entered(a: Lane, ending: Ending) -> bool
 // Next: behind the last cycle comes the loop's, or none.
 fn next(a: Lane, span: Span) -> Lane
     requires { ⌜ LoopBelow 256 (span .ending) ⌝ }
-    ensures { λ r. ⌜ ((n : ℕ) (q : ℕ → Bool) → SpanOf n span → Shows n a q → Shows n r (nextPass n (span .ending) q)) ⌝ }
+    ensures shows { λ r. ⌜ ((n : ℕ) (q : ℕ → Bool) → SpanOf n span → Shows n a q → Shows n r (nextPass n (span .ending) q)) ⌝ }
 {
     let later = lanes::lane::next(a);
     let ending = span.ending;
@@ -59,7 +59,7 @@ fn next(a: Lane, span: Span) -> Lane
 }
 
 pub fn constant(kind: ConstantKind, span: Span) -> Lane
-    ensures { λ r. ⌜ ((n : ℕ) → SpanOf n span → Shows n r (λ i. constantBit kind)) ⌝ }
+    ensures shows { λ r. ⌜ ((n : ℕ) → SpanOf n span → Shows n r (λ i. constantBit kind)) ⌝ }
 {
     match kind {
         ConstantKind::True => span.all,
@@ -69,7 +69,7 @@ pub fn constant(kind: ConstantKind, span: Span) -> Lane
 
 // A signal's lane may have anything behind the last cycle.
 pub fn signal(kind: SignalKind, lane: Lane, span: Span) -> Lane
-    ensures { λ r. ⌜ ((n : ℕ) → SpanOf n span → Shows n r (λ i. signedBit (signalSign kind) (bitAt lane i))) ⌝ }
+    ensures shows { λ r. ⌜ ((n : ℕ) → SpanOf n span → Shows n r (λ i. signedBit (signalSign kind) (bitAt lane i))) ⌝ }
 {
     let on = lanes::lane::both(lane, span.all);
     match kind {
@@ -81,7 +81,7 @@ pub fn signal(kind: SignalKind, lane: Lane, span: Span) -> Lane
 // A row with one operand: ever a is until true a, always a is weak a false.
 pub fn unary(kind: UnaryKind, a: Lane, span: Span) -> Lane
     requires { ⌜ LoopBelow 256 (span .ending) ⌝ }
-    ensures { λ r. ⌜ ((n : ℕ) (q : ℕ → Bool) → SpanOf n span → Shows n a q
+    ensures shows { λ r. ⌜ ((n : ℕ) (q : ℕ → Bool) → SpanOf n span → Shows n a q
         → Shows n r (passBit n (span .ending) (λ i. unaryLeft kind) (λ i. signedBit (positive kind) (q i)) (unaryPattern kind))) ⌝ }
 {
     match kind {
@@ -95,7 +95,7 @@ pub fn unary(kind: UnaryKind, a: Lane, span: Span) -> Lane
 // A row with two operands: release a b is weak b (a and b), and srelease a b is until b (a and b).
 pub fn binary(kind: BinaryKind, a: Lane, b: Lane, span: Span) -> Lane
     requires { ⌜ LoopBelow 256 (span .ending) ⌝ }
-    ensures { λ r. ⌜ ((n : ℕ) (p q : ℕ → Bool) → SpanOf n span → Shows n a p → Shows n b q
+    ensures shows { λ r. ⌜ ((n : ℕ) (p q : ℕ → Bool) → SpanOf n span → Shows n a p → Shows n b q
         → Shows n r (passBit n (span .ending) p q (binaryPattern kind))) ⌝ }
 {
     match kind {

@@ -20,7 +20,7 @@ use Rattle.row_monitor.specs.declared.row.Course.{Course}
 use Rattle.row_monitor.specs.declared.row.Reads.{Reads}
 use Rattle.row_monitor.specs.declared.row.RowReport.{RowReport}
 use Rattle.row_monitor.specs.RowReport.{rowPending, AcceptedTo, courseOutput, coursePending}
-use Rattle.row_monitor.specs.Word.{some, whenActive, whenPending, dropped, held, failing, staying, pendingFrom, wordRun, WholeWord}
+use Rattle.row_monitor.specs.Word.{some, whenActive, whenPending, dropped, held, failing, staying, pendingFrom, wordReport, WholeWord}
 use Rattle.row_monitor.proofs.Causes.{by-both, most, accepts, failed-by, pending-by}
 use Rattle.row_monitor.proofs.ReportLoop.{ReportTo, or-cases, or-none, and-both}
 
@@ -143,12 +143,12 @@ module _ (row : Row) (reads : Reads) (course : Course) where
 
   -- ---- the word's cycles are gone through
 
-  module _ {i c : ℕ} {report : RowReport} (r : ReportTo row reads course i c report) (w : WholeWord c i course) (ok : wordRun row reads c (report .pending) .clean ≡ true) where
+  module _ {i c : ℕ} {report : RowReport} (r : ReportTo row reads course i c report) (w : WholeWord c i course) (ok : wordReport row reads c (report .pending) .clean ≡ true) where
     abbrev behind : Bool
-    behind = wordRun row reads c (report .pending) .pending
+    behind = wordReport row reads c (report .pending) .pending
 
     whole : Clean (c + 64) (w .recorded) 64 i × (pending (i + 64) ≡ behind)
-    unfolding wordRun
+    unfolding wordReport
     whole =
         let none = and-both (not (some 64 c (λ x. active x && failing row first second (c + 64) x))) (not (report .pending && lost (c + 64) (w .recorded) c)) ok in
         let not-lost = not-true (report .pending && lost (c + 64) (w .recorded) c) (none .1) in

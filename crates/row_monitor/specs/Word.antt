@@ -11,7 +11,7 @@ use Rattle.monitors.specs.Monitor.{rowMonitor}
 use Rattle.row_monitor.specs.declared.row.Course.{Course}
 use Rattle.row_monitor.specs.declared.row.Reads.{Reads}
 use Rattle.row_monitor.specs.declared.word.Moves.{Moves}
-use Rattle.row_monitor.specs.declared.word.WordRun.{WordRun}
+use Rattle.row_monitor.specs.declared.word.WordReport.{WordReport}
 
 -- f is on in one of the n cycles from b on
 unfoldable pub some : ℕ → ℕ → (ℕ → Bool) → Bool
@@ -55,8 +55,8 @@ module _ (row : Row) (f g : ℕ → Bool) (e : ℕ) where
   abbrev pub pendingFrom : ℕ → ℕ → (ℕ → Bool) → Bool → Bool
   pendingFrom n b z p = some n b (λ i. z i && staying i) || (p && held b)
 
-unfoldable pub wordRun : Row → Reads → ℕ → Bool → WordRun
-wordRun row reads b p = record {
+unfoldable pub wordReport : Row → Reads → ℕ → Bool → WordReport
+wordReport row reads b p = record {
   clean = cleanFrom row (bitAt (reads .first)) (bitAt (reads .second)) (b + 64) 64 b (bitAt (reads .active)) p;
   pending = pendingFrom row (bitAt (reads .first)) (bitAt (reads .second)) (b + 64) 64 b (bitAt (reads .active)) p;
 }

@@ -38,7 +38,7 @@ pub struct RowReport {
 // The take's cycle behind cycle c.
 fn next_cycle(c: u16, course: Course) -> u16
     requires { ⌜ c < 256 ⌝ }
-    ensures { λ r. ⌜ r ≡ pick (ltb (suc c) (course .cycles)) (suc c) (course .start) ⌝ }
+    ensures answer { λ r. ⌜ r ≡ pick (ltb (suc c) (course .cycles)) (suc c) (course .start) ⌝ }
 {
     if c + 1 < course.cycles {
         return c + 1;
@@ -49,7 +49,7 @@ fn next_cycle(c: u16, course: Course) -> u16
 // The next 64 cycles of the course are one word of the recording, and all of them count or none.
 fn whole_word(c: u16, i: u16, course: Course) -> bool
     requires { ⌜ (c < 256) × (i < 512) ⌝ }
-    ensures { λ r. ⌜ (r ≡ true → WholeWord c i course) ⌝ }
+    ensures answer { λ r. ⌜ (r ≡ true → WholeWord c i course) ⌝ }
 {
     (c % 64 == 0)
         & (c + 64 <= course.cycles)
@@ -60,7 +60,7 @@ fn whole_word(c: u16, i: u16, course: Course) -> bool
 // Word by word where nothing fails in it and an accept that counts needs no search, else cycle by cycle.
 pub fn monitor_row(row: Row, reads: Reads, course: Course) -> RowReport
     requires { ⌜ CourseOf course ⌝ }
-    ensures { λ r. ⌜ RowReportOf row reads course r ⌝ }
+    ensures report { λ r. ⌜ RowReportOf row reads course r ⌝ }
 {
     let mut report = RowReport {
         failed: course.end,

@@ -10,7 +10,7 @@ ghost use mathlib.Core.Path.{_≡_};
 ghost use mathlib.Core.Bool.{Bool, not};
 ghost use Prim.Native.Nat.{ℕ, _*_, _<_};
 ghost use Rattle.tables.specs.Bit.{bitAt, wordFrom};
-ghost use Rattle.row_monitor.specs.Word.{MovesOf, some, wordRun};
+ghost use Rattle.row_monitor.specs.Word.{MovesOf, some, wordReport};
 
 const EVERY: u64 = 0xffff_ffff_ffff_ffff;
 
@@ -24,27 +24,27 @@ pub struct Moves {
 }
 
 // Nothing fails in a word, and whether the monitor is pending behind it. (Where something fails, that does not count.)
-pub struct WordRun {
+pub struct WordReport {
     pub clean: bool,
     pub pending: bool,
 }
 
 fn negated(word: u64) -> u64
-    ensures { λ r. ⌜ ((b : ℕ) (f : ℕ → Bool) → word ≡ wordFrom 64 b f → r ≡ wordFrom 64 b (λ i. not (f i))) ⌝ }
+    ensures word { λ r. ⌜ ((b : ℕ) (f : ℕ → Bool) → word ≡ wordFrom 64 b f → r ≡ wordFrom 64 b (λ i. not (f i))) ⌝ }
 {
     EVERY - word
 }
 
 // Some bit is on.
 fn any(word: u64) -> bool
-    ensures { λ r. ⌜ ((b : ℕ) (f : ℕ → Bool) → word ≡ wordFrom 64 b f → r ≡ some 64 b f) ⌝ }
+    ensures word { λ r. ⌜ ((b : ℕ) (f : ℕ → Bool) → word ≡ wordFrom 64 b f → r ≡ some 64 b f) ⌝ }
 {
     word != 0
 }
 
 // The first bit.
 fn first(word: u64) -> bool
-    ensures { λ r. ⌜ ((b : ℕ) (f : ℕ → Bool) → word ≡ wordFrom 64 b f → r ≡ f b) ⌝ }
+    ensures word { λ r. ⌜ ((b : ℕ) (f : ℕ → Bool) → word ≡ wordFrom 64 b f → r ≡ f b) ⌝ }
 {
     word % 2 == 1
 }
@@ -52,7 +52,7 @@ fn first(word: u64) -> bool
 // A word of a lane.
 fn word_of(lane: Lane, at: usize) -> u64
     requires { ⌜ at < 4 ⌝ }
-    ensures { λ r. ⌜ r ≡ wordFrom 64 (at * 64) (bitAt lane) ⌝ }
+    ensures answer { λ r. ⌜ r ≡ wordFrom 64 (at * 64) (bitAt lane) ⌝ }
 {
     let words = lane.words;
     words[at] & EVERY
@@ -60,7 +60,7 @@ fn word_of(lane: Lane, at: usize) -> u64
 
 // A monitor that reads its activator alone.
 fn checks(fails: u64) -> Moves
-    ensures { λ r. ⌜ r ≡ record { fails = fails; waits = 0; drops = 0; holds = 0 } ⌝ }
+    ensures answer { λ r. ⌜ r ≡ record { fails = fails; waits = 0; drops = 0; holds = 0 } ⌝ }
 {
     Moves {
         fails,
@@ -72,7 +72,7 @@ fn checks(fails: u64) -> Moves
 
 // A monitor for which an activator and a pending are the same.
 fn goes(waits: u64, fails: u64) -> Moves
-    ensures { λ r. ⌜ r ≡ record { fails = fails; waits = waits; drops = fails; holds = waits } ⌝ }
+    ensures answer { λ r. ⌜ r ≡ record { fails = fails; waits = waits; drops = fails; holds = waits } ⌝ }
 {
     Moves {
         fails,
@@ -83,7 +83,7 @@ fn goes(waits: u64, fails: u64) -> Moves
 }
 
 fn unary_moves(kind: UnaryKind, a: u64) -> Moves
-    ensures { λ r. ⌜ ((n k : ℕ) (f g : ℕ → Bool) → a ≡ wordFrom 64 k f → MovesOf (Row.Unary kind n) f g k r) ⌝ }
+    ensures moves { λ r. ⌜ ((n k : ℕ) (f g : ℕ → Bool) → a ≡ wordFrom 64 k f → MovesOf (Row.Unary kind n) f g k r) ⌝ }
 {
     match kind {
         UnaryKind::Not => checks(0),
@@ -99,7 +99,8 @@ fn unary_moves(kind: UnaryKind, a: u64) -> Moves
 }
 
 fn binary_moves(kind: BinaryKind, a: u64, b: u64) -> Moves
-    ensures { λ r. ⌜ ((n m k : ℕ) (f g : ℕ → Bool) → a ≡ wordFrom 64 k f → b ≡ wordFrom 64 k g → MovesOf (Row.Binary kind n m) f g k r) ⌝ }
+    ensures moves { λ r. ⌜ ((n m k : ℕ) (f g : ℕ → Bool) → a ≡ wordFrom 64 k f → b ≡ wordFrom 64 k g
+        → MovesOf (Row.Binary kind n m) f g k r) ⌝ }
 {
     let a_off = negated(a);
     let b_off = negated(b);
@@ -115,7 +116,7 @@ fn binary_moves(kind: BinaryKind, a: u64, b: u64) -> Moves
 
 // The monitors' table, word by word; a and b are the words at the row's numbers.
 fn row_moves(row: Row, a: u64, b: u64) -> Moves
-    ensures { λ r. ⌜ ((k : ℕ) (f g : ℕ → Bool) → a ≡ wordFrom 64 k f → b ≡ wordFrom 64 k g → MovesOf row f g k r) ⌝ }
+    ensures moves { λ r. ⌜ ((k : ℕ) (f g : ℕ → Bool) → a ≡ wordFrom 64 k f → b ≡ wordFrom 64 k g → MovesOf row f g k r) ⌝ }
 {
     match row {
         Row::Constant(kind) => match kind {
@@ -133,9 +134,9 @@ fn row_moves(row: Row, a: u64, b: u64) -> Moves
 
 // Each activation is followed forwards, all of them at once: it fails or stays where it does so, or is pending and a pending does so
 // from the next cycle on.
-pub fn monitor_word(row: Row, reads: Reads, at: usize, pending: bool) -> WordRun
+pub fn monitor_word(row: Row, reads: Reads, at: usize, pending: bool) -> WordReport
     requires { ⌜ at < 4 ⌝ }
-    ensures { λ r. ⌜ r ≡ wordRun row reads (at * 64) pending ⌝ }
+    ensures answer { λ r. ⌜ r ≡ wordReport row reads (at * 64) pending ⌝ }
 {
     let active = word_of(reads.active, at);
     let a = word_of(reads.first, at);
@@ -145,7 +146,7 @@ pub fn monitor_word(row: Row, reads: Reads, at: usize, pending: bool) -> WordRun
     let held = lanes::word::carry_from(m.holds, 0, 1);
     let failing = m.fails | (m.waits & lanes::word::next_from(dropped, 0));
     let staying = m.waits & lanes::word::next_from(held, 1);
-    WordRun {
+    WordReport {
         clean: !any(active & failing) & !(pending & first(dropped)),
         pending: any(active & staying) | (pending & first(held)),
     }

@@ -18,7 +18,7 @@ pub struct Pair {
 
 // What the readers answered, as a pair: for files that were read one after the other through one buffer.
 pub fn join(first: RuleAnswer, second: TakeAnswer) -> Pair
-    ensures { λ r. ⌜ r ≡ joined first second ⌝ }
+    ensures answer { λ r. ⌜ r ≡ joined first second ⌝ }
 {
     let one = first.outcome;
     let two = second.outcome;
@@ -33,7 +33,7 @@ pub fn join(first: RuleAnswer, second: TakeAnswer) -> Pair
 }
 
 pub fn read_pair(rule: &[u8], take: &[u8]) -> Pair
-    ensures { λ r. ⌜ r ≡ pairRead (parseRule (now (rule .entry))) (parseTake (now (take .entry))) ⌝ }
+    ensures answer { λ r. ⌜ r ≡ pairRead (parseRule (now (rule .entry))) (parseTake (now (take .entry))) ⌝ }
 {
     let first = rule_file::rule::read_rule(rule);
     let second = take_file::take::read_take(take);

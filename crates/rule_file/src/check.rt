@@ -17,7 +17,7 @@ use tables::refusal::Refusal;
 use tables::row::Formula;
 
 fn refuse(reason: Reason, line: usize) -> Outcome
-    ensures { λ r. ⌜ r ≡ Outcome.Refused (record { reason = reason; file = 1; line = line }) ⌝ }
+    ensures answer { λ r. ⌜ r ≡ Outcome.Refused (record { reason = reason; file = 1; line = line }) ⌝ }
 {
     Outcome::Refused(Refusal {
         reason,
@@ -29,9 +29,9 @@ fn refuse(reason: Reason, line: usize) -> Outcome
 // The used rows, from the first on.
 fn check_rows(formula: Formula) -> Outcome
     requires { ⌜ formula .rows ≤ 64 ⌝ }
-    ensures { λ r. ⌜ r ≡ outcomeOf 1 (bodyLines 114 (rowValue (formula .signals)) (formula .rows) 1 4
+    ensures answer { λ r. ⌜ r ≡ outcomeOf 1 (bodyLines 114 (rowValue (formula .signals)) (formula .rows) 1 4
         (writtenBody 114 writtenRow 1 (rowsOf formula))) ⌝ }
-    ensures { λ r. ⌜ (r ≡ Outcome.Accepted → EachAt (λ k x. inRange (formula .signals) k x ≡ true) 1 (rowsOf formula)) ⌝ }
+    ensures range { λ r. ⌜ (r ≡ Outcome.Accepted → EachAt (λ k x. inRange (formula .signals) k x ≡ true) 1 (rowsOf formula)) ⌝ }
 {
     let signals = formula.signals as usize;
     let rows = formula.rows as usize;

@@ -24,7 +24,7 @@ pub struct RuleAnswer {
 
 // A refusal of a rule file.
 fn refuse(reason: Reason, line: usize) -> RuleAnswer
-    ensures { λ r. ⌜ r ≡ ruleAnswer (refused reason line) ⌝ }
+    ensures answer { λ r. ⌜ r ≡ ruleAnswer (refused reason line) ⌝ }
 {
     let unused = Row::Constant(ConstantKind::True);
     let places = [RowPlace { row: unused }; 64];
@@ -45,7 +45,8 @@ fn refuse(reason: Reason, line: usize) -> RuleAnswer
 // The rows, one line each, and nothing behind them.
 fn read_rows(body: &[u8], signals: usize, rows: usize) -> RuleAnswer
     requires { ⌜ (signals ≤ 32) × (rows ≤ 64) ⌝ }
-    ensures { λ r. ⌜ r ≡ ruleAnswer (mapResult (formulaOf signals rows) (bodyLines 114 (rowValue signals) rows 1 4 (now (body .entry)))) ⌝ }
+    ensures answer { λ r. ⌜ r ≡ ruleAnswer (mapResult (formulaOf signals rows)
+        (bodyLines 114 (rowValue signals) rows 1 4 (now (body .entry)))) ⌝ }
 {
     let mut rest = body;
     let unused = Row::Constant(ConstantKind::True);
@@ -75,7 +76,7 @@ fn read_rows(body: &[u8], signals: usize, rows: usize) -> RuleAnswer
 
 // A rule file: its formula, or the refusal.
 pub fn read_rule(file: &[u8]) -> RuleAnswer
-    ensures { λ r. ⌜ r ≡ ruleAnswer (parseRule (now (file .entry))) ⌝ }
+    ensures answer { λ r. ⌜ r ≡ ruleAnswer (parseRule (now (file .entry))) ⌝ }
 {
     if 65536 < file.len() {
         return refuse(Reason::TooLong, 0);

@@ -13,7 +13,7 @@ use text::search::Found;
 
 // The place in the table of the kind that has this word.
 fn kind_named(word: &[u8]) -> Found
-    ensures { λ r. ⌜ r ≡ kindNamed (now (word .entry)) ⌝ }
+    ensures answer { λ r. ⌜ r ≡ kindNamed (now (word .entry)) ⌝ }
 {
     let kinds = kind::table();
     let mut place = 0;
@@ -38,7 +38,7 @@ pub enum RowForm {
 
 // A word with so many numbers behind it.
 fn form_of(word: &[u8], count: usize, first: usize, second: usize) -> RowForm
-    ensures { λ r. ⌜ formAs r ≡ formOf (now (word .entry)) count first second ⌝ }
+    ensures answer { λ r. ⌜ formAs r ≡ formOf (now (word .entry)) count first second ⌝ }
 {
     let Found::At(place) = kind_named(word) else {
         return RowForm::Formless;
@@ -53,7 +53,7 @@ fn form_of(word: &[u8], count: usize, first: usize, second: usize) -> RowForm
 
 // The value of a row's line: a word and none, one or two numbers, with single spaces between them.
 fn row_form(value: &[u8]) -> RowForm
-    ensures { λ r. ⌜ formAs r ≡ rowForm (now (value .entry)) ⌝ }
+    ensures answer { λ r. ⌜ formAs r ≡ rowForm (now (value .entry)) ⌝ }
 {
     let Found::At(space) = text::search::find(value, b' ') else {
         return form_of(value, 0, 0, 0);
@@ -76,7 +76,7 @@ fn row_form(value: &[u8]) -> RowForm
 }
 
 fn is_signal(signals: usize, s: usize) -> bool
-    ensures { λ r. ⌜ r ≡ isSignal signals s ⌝ }
+    ensures answer { λ r. ⌜ r ≡ isSignal signals s ⌝ }
 {
     if s == 0 {
         return false;
@@ -85,7 +85,7 @@ fn is_signal(signals: usize, s: usize) -> bool
 }
 
 fn is_operand(number: usize, a: usize) -> bool
-    ensures { λ r. ⌜ r ≡ isOperand number a ⌝ }
+    ensures answer { λ r. ⌜ r ≡ isOperand number a ⌝ }
 {
     if a == 0 {
         return false;
@@ -95,7 +95,7 @@ fn is_operand(number: usize, a: usize) -> bool
 
 // Whether these numbers lie in the ranges that a row of this kind has in row place `number`.
 pub fn in_range(signals: usize, number: usize, row: Row, first: usize, second: usize) -> bool
-    ensures { λ r. ⌜ r ≡ inRange signals number (withNumbers row first second) ⌝ }
+    ensures answer { λ r. ⌜ r ≡ inRange signals number (withNumbers row first second) ⌝ }
 {
     match row {
         Row::Constant(_) => true,
@@ -119,7 +119,7 @@ pub enum RowLine {
 // The line of row `number`.
 pub fn row_line(rest: &[u8], number: usize, signals: usize) -> RowLine
     requires { ⌜ (number ≤ 64) × (signals ≤ 32) ⌝ }
-    ensures { λ r. ⌜ rowLineAs r ≡ keyedLine (isNumbered 114 number) (rowValue signals number) (now (rest .entry)) ⌝ }
+    ensures answer { λ r. ⌜ rowLineAs r ≡ keyedLine (isNumbered 114 number) (rowValue signals number) (now (rest .entry)) ⌝ }
 {
     let Cut::Line(equals, end) = text::line::cut_line(rest) else {
         return RowLine::Wrong(Reason::WrongForm);
@@ -139,7 +139,7 @@ pub fn row_line(rest: &[u8], number: usize, signals: usize) -> RowLine
 
 // Why a row's line is refused.
 pub fn row_reason(line: RowLine) -> Reason
-    ensures { λ r. ⌜ r ≡ reasonOf line ⌝ }
+    ensures answer { λ r. ⌜ r ≡ reasonOf line ⌝ }
 {
     match line {
         RowLine::Row(_, _) => Reason::WrongForm,

@@ -10,7 +10,7 @@ use tables::refusal::Refusal;
 use tables::trace::Activation;
 
 fn refuse(reason: Reason, line: usize) -> Outcome
-    ensures { λ r. ⌜ r ≡ Outcome.Refused (record { reason = reason; file = 3; line = line }) ⌝ }
+    ensures answer { λ r. ⌜ r ≡ Outcome.Refused (record { reason = reason; file = 3; line = line }) ⌝ }
 {
     Outcome::Refused(Refusal {
         reason,
@@ -21,8 +21,8 @@ fn refuse(reason: Reason, line: usize) -> Outcome
 
 // An activation table in memory: what reading it, written out as its file, would answer; and what an accepted one is known to be.
 pub fn check_activation(activation: Activation) -> Outcome
-    ensures { λ r. ⌜ r ≡ outcomeOf 3 (parseSheet (writtenSheet activation)) ⌝ }
-    ensures { λ r. ⌜ (r ≡ Outcome.Accepted → InRange activation) ⌝ }
+    ensures answer { λ r. ⌜ r ≡ outcomeOf 3 (parseSheet (writtenSheet activation)) ⌝ }
+    ensures range { λ r. ⌜ (r ≡ Outcome.Accepted → InRange activation) ⌝ }
 {
     let rows = activation.rows;
     let cycles = activation.cycles;

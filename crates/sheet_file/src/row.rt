@@ -11,8 +11,8 @@ ghost use Rattle.sheet_file.specs.Sheet.{rowLane};
 use tables::trace::Lane;
 
 fn bit(digit: u8) -> u64
-    ensures { λ r. ⌜ r ≡ pick (eqb digit 49) 1 0 ⌝ }
-    ensures { λ r. ⌜ r ≤ 1 ⌝ }
+    ensures answer { λ r. ⌜ r ≡ pick (eqb digit 49) 1 0 ⌝ }
+    ensures room { λ r. ⌜ r ≤ 1 ⌝ }
 {
     if digit == b'1' { 1 } else { 0 }
 }
@@ -21,7 +21,7 @@ fn bit(digit: u8) -> u64
 // branch depends on a digit.
 fn digits_to_word(value: &[u8], from: usize, count: usize) -> u64
     requires { ⌜ (count ≤ 64) × (from + count ≤ length (now value)) ⌝ }
-    ensures { λ r. ⌜ r ≡ wordFrom count from (λ c. getD (digitsIn (now (value .entry))) c false) ⌝ }
+    ensures answer { λ r. ⌜ r ≡ wordFrom count from (λ c. getD (digitsIn (now (value .entry))) c false) ⌝ }
 {
     let mut word = 0;
     let mut left = count;
@@ -35,7 +35,7 @@ fn digits_to_word(value: &[u8], from: usize, count: usize) -> u64
 // Word i of a row: that of up to 64 digits. A whole word has its own call, whose count the compiler knows.
 fn row_word(value: &[u8], i: usize) -> u64
     requires { ⌜ i < 4 ⌝ }
-    ensures { λ r. ⌜ r ≡ wordFrom 64 (i * 64) (λ c. getD (digitsIn (now (value .entry))) c false) ⌝ }
+    ensures answer { λ r. ⌜ r ≡ wordFrom 64 (i * 64) (λ c. getD (digitsIn (now (value .entry))) c false) ⌝ }
 {
     let from = i * 64;
     if value.len() <= from {
@@ -51,7 +51,7 @@ fn row_word(value: &[u8], i: usize) -> u64
 // The lane of a row: the bit of a cycle is set where its digit is 1.
 pub fn digits_to_lane(value: &[u8]) -> Lane
     requires { ⌜ length (now value) ≤ 256 ⌝ }
-    ensures { λ r. ⌜ r ≡ rowLane (digitsIn (now (value .entry))) ⌝ }
+    ensures answer { λ r. ⌜ r ≡ rowLane (digitsIn (now (value .entry))) ⌝ }
 {
     Lane {
         words: [

@@ -22,7 +22,7 @@ pub struct SheetAnswer {
 
 // A refusal of a sheet file.
 fn refuse(reason: Reason, line: usize) -> SheetAnswer
-    ensures { λ r. ⌜ r ≡ sheetAnswer (refused reason line) ⌝ }
+    ensures answer { λ r. ⌜ r ≡ sheetAnswer (refused reason line) ⌝ }
 {
     let lanes = [Lane { words: [0; 4] }; 128];
     SheetAnswer {
@@ -42,7 +42,7 @@ fn refuse(reason: Reason, line: usize) -> SheetAnswer
 // The rows, one line each, and nothing behind them.
 fn read_rows(body: &[u8], rows: usize, cycles: usize) -> SheetAnswer
     requires { ⌜ (rows ≤ 128) × (cycles ≤ 256) ⌝ }
-    ensures { λ r. ⌜ r ≡ sheetAnswer (mapResult (activationOf rows cycles)
+    ensures answer { λ r. ⌜ r ≡ sheetAnswer (mapResult (activationOf rows cycles)
         (bodyLines 122 (λ r. digitsForm cycles) rows 1 4 (now (body .entry)))) ⌝ }
 {
     let mut rest = body;
@@ -71,7 +71,7 @@ fn read_rows(body: &[u8], rows: usize, cycles: usize) -> SheetAnswer
 
 // A sheet file: its activation table, or the refusal.
 pub fn read_sheet(file: &[u8]) -> SheetAnswer
-    ensures { λ r. ⌜ r ≡ sheetAnswer (parseSheet (now (file .entry))) ⌝ }
+    ensures answer { λ r. ⌜ r ≡ sheetAnswer (parseSheet (now (file .entry))) ⌝ }
 {
     if 65536 < file.len() {
         return refuse(Reason::TooLong, 0);

@@ -79,7 +79,8 @@ pub fn write_sheet(sheet: Activation, buf: &mut [u8]) -> Bytes
 // The answer to tables that are known to be in range, as those that were read are.
 pub fn make_met(formula: Formula, trace: Trace, buf: &mut [u8]) -> MakerAnswer
     requires { ⌜ FormulaInRange formula × TraceInRange trace ⌝ }
-    ensures makes { λ r. ⌜ TheOnlyPair (MakesOn (meetingOutcome Either formula trace) formula trace (now (buf .entry))) (now (buf .exit)) r ⌝ }
+    ensures makes { λ r. ⌜ TheOnlyPair (MakesOn (meetingOutcome Either formula trace) formula trace (now (buf .entry)))
+        (now (buf .exit)) r ⌝ }
 {
     let met = meeting::meet(formula, trace, Wanted::Either);
     let outcome = met.outcome;

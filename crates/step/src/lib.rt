@@ -26,13 +26,13 @@ ghost use Rattle.step.specs.Step.{digitAt, digitOf, formAnswer, formLeft
 // Digit `number` of a slice, counted from 1.
 fn is_on(digits: &[u8], number: usize) -> bool
     requires { ⌜ (1 ≤ number) × (number ≤ length (now digits)) ⌝ }
-    ensures { λ r. ⌜ r ≡ digitAt (now (digits .entry)) number ⌝ }
+    ensures answer { λ r. ⌜ r ≡ digitAt (now (digits .entry)) number ⌝ }
 {
     digits[number - 1] == b'1'
 }
 
 fn digit(on: bool) -> u8
-    ensures { λ r. ⌜ r ≡ digitOf on ⌝ }
+    ensures answer { λ r. ⌜ r ≡ digitOf on ⌝ }
 {
     if on { b'1' } else { b'0' }
 }
@@ -41,7 +41,7 @@ fn digit(on: bool) -> u8
 fn row_output(row: Row, state: State, activators: &[u8], signals: &[u8]) -> Output
     requires { ⌜ Each (λ a. (1 ≤ a) × (a ≤ length (now activators))) row ⌝ }
     requires { ⌜ EachSignal (λ s. (1 ≤ s) × (s ≤ length (now signals))) row ⌝ }
-    ensures { λ r. ⌜ r ≡ monitor (digitAt (now (activators .entry))) (digitAt (now (signals .entry))) row state ⌝ }
+    ensures answer { λ r. ⌜ r ≡ monitor (digitAt (now (activators .entry))) (digitAt (now (signals .entry))) row state ⌝ }
 {
     match row {
         Row::Constant(kind) => monitors::constant(kind, state),
@@ -59,7 +59,7 @@ fn row_output(row: Row, state: State, activators: &[u8], signals: &[u8]) -> Outp
 // The digits of all rows, at the buffer's start.
 fn put_outputs(buf: &mut [u8], form: NormalForm, pendings: &[u8], activators: &[u8], signals: &[u8])
     requires { ⌜ InNormalForm form × Fitting form (now pendings) (now activators) (now signals) (length (now buf)) ⌝ }
-    ensures { λ r. ⌜ now (buf .exit) ≡ formOutput form (now (pendings .entry)) (now (activators .entry)) (now (signals .entry))
+    ensures left { λ r. ⌜ now (buf .exit) ≡ formOutput form (now (pendings .entry)) (now (activators .entry)) (now (signals .entry))
         ++ drop (3 * form .rows) (now (buf .entry)) ⌝ }
 {
     let rows = form.rows as usize;
@@ -87,7 +87,7 @@ fn check_call(
     signals: &[u8],
     room: usize,
 ) -> Outcome
-    ensures { λ r. ⌜ r ≡ formOutcome form (now (pendings .entry)) (now (activators .entry)) (now (signals .entry)) room ⌝ }
+    ensures answer { λ r. ⌜ r ≡ formOutcome form (now (pendings .entry)) (now (activators .entry)) (now (signals .entry)) room ⌝ }
 {
     let rows = form.rows as usize;
     let digits = are_digits(pendings) & are_digits(activators) & are_digits(signals);

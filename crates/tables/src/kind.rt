@@ -112,7 +112,7 @@ const KINDS: [Kind; KIND_COUNT] = [
 
 // The table, for who looks at many of its places: the compiler stores it anew each time that it is indexed by a variable.
 pub fn table() -> [Kind; KIND_COUNT]
-    ensures { λ r. ⌜ r ≡ kinds ⌝ }
+    ensures answer { λ r. ⌜ r ≡ kinds ⌝ }
 {
     KINDS
 }
@@ -127,7 +127,7 @@ pub fn kind_at(place: usize) -> Kind
 
 // How many numbers stand behind a row's word.
 pub fn numbers_in(row: Row) -> usize
-    ensures { λ r. ⌜ r ≡ numbersIn row ⌝ }
+    ensures answer { λ r. ⌜ r ≡ numbersIn row ⌝ }
 {
     match row {
         Row::Constant(_) => 0,
@@ -139,7 +139,7 @@ pub fn numbers_in(row: Row) -> usize
 
 // The row of the same kind with these numbers.
 pub fn with_numbers(row: Row, a: u8, b: u8) -> Row
-    ensures { λ r. ⌜ r ≡ withNumbers row a b ⌝ }
+    ensures answer { λ r. ⌜ r ≡ withNumbers row a b ⌝ }
 {
     match row {
         Row::Constant(k) => Row::Constant(k),
@@ -151,7 +151,7 @@ pub fn with_numbers(row: Row, a: u8, b: u8) -> Row
 
 // The first number behind a row's word, and the second; 0 where there is none.
 pub fn first_number(row: Row) -> u8
-    ensures { λ r. ⌜ r ≡ firstNumber row ⌝ }
+    ensures answer { λ r. ⌜ r ≡ firstNumber row ⌝ }
 {
     match row {
         Row::Constant(_) => 0,
@@ -162,7 +162,7 @@ pub fn first_number(row: Row) -> u8
 }
 
 pub fn second_number(row: Row) -> u8
-    ensures { λ r. ⌜ r ≡ secondNumber row ⌝ }
+    ensures answer { λ r. ⌜ r ≡ secondNumber row ⌝ }
 {
     match row {
         Row::Constant(_) => 0,
@@ -228,7 +228,7 @@ pub fn place_of(row: Row) -> usize
 
 // The dual of a row: its partner under negation, with the same numbers.
 pub fn dual(row: Row) -> Row
-    ensures { λ r. ⌜ r ≡ dualOf row ⌝ }
+    ensures answer { λ r. ⌜ r ≡ dualOf row ⌝ }
 {
     let kind = kind_at(place_of(row));
     let partner = kind_at(kind.partner);

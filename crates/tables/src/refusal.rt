@@ -29,7 +29,7 @@ pub enum Outcome {
 
 // The number of a reason in 01's list.
 pub fn reason_number(reason: Reason) -> u8
-    ensures { λ r. ⌜ r ≡ number reason ⌝ }
+    ensures answer { λ r. ⌜ r ≡ number reason ⌝ }
 {
     match reason {
         Reason::TooLong => 1,
@@ -47,7 +47,7 @@ pub fn reason_number(reason: Reason) -> u8
 
 // A call is refused where no file is at fault.
 pub fn call_refused(reason: Reason) -> Outcome
-    ensures { λ r. ⌜ r ≡ callRefused reason ⌝ }
+    ensures answer { λ r. ⌜ r ≡ callRefused reason ⌝ }
 {
     Outcome::Refused(Refusal {
         reason,

@@ -33,7 +33,7 @@ pub struct Activation {
 
 fn power_of_two(k: usize) -> u64
     requires { ⌜ k < 64 ⌝ }
-    ensures { λ r. ⌜ r ≡ 2 ^ k ⌝ }
+    ensures answer { λ r. ⌜ r ≡ 2 ^ k ⌝ }
 {
     1u64 << k
 }
@@ -41,7 +41,7 @@ fn power_of_two(k: usize) -> u64
 // The lane with one bit more. Each bit is set once only, so that a sum serves.
 pub fn with_bit(lane: Lane, cycle: usize) -> Lane
     requires { ⌜ (cycle < 256) × (getD (lane .words) (cycle / 64) 0 + 2 ^ (cycle % 64) < 2 ^ 64) ⌝ }
-    ensures { λ r. ⌜ r ≡ marked lane cycle ⌝ }
+    ensures answer { λ r. ⌜ r ≡ marked lane cycle ⌝ }
 {
     let mut words = lane.words;
     let at = cycle / 64;

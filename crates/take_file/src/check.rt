@@ -9,7 +9,7 @@ use tables::trace::Ending;
 use tables::trace::Trace;
 
 fn refuse(reason: Reason, line: usize) -> Outcome
-    ensures { λ r. ⌜ r ≡ Outcome.Refused (record { reason = reason; file = 2; line = line }) ⌝ }
+    ensures answer { λ r. ⌜ r ≡ Outcome.Refused (record { reason = reason; file = 2; line = line }) ⌝ }
 {
     Outcome::Refused(Refusal {
         reason,
@@ -20,8 +20,8 @@ fn refuse(reason: Reason, line: usize) -> Outcome
 
 // Whether the loop's cycle, if there is one, is below `cycles`.
 fn is_below(ending: Ending, cycles: u16) -> bool
-    ensures { λ r. ⌜ r ≡ isBelow cycles ending ⌝ }
-    ensures { λ r. ⌜ Below 65536 ending ⌝ }
+    ensures answer { λ r. ⌜ r ≡ isBelow cycles ending ⌝ }
+    ensures within { λ r. ⌜ Below 65536 ending ⌝ }
 {
     match ending {
         Ending::Open => true,

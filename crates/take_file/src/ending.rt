@@ -18,7 +18,7 @@ pub enum EndingLine {
 // The line `loop=none`, or `loop=` and a cycle below `cycles`.
 pub fn ending_line(rest: &[u8], cycles: usize) -> EndingLine
     requires { ⌜ cycles ≤ 256 ⌝ }
-    ensures { λ r. ⌜ endingLineAs r ≡ keyedLine (isKey (bytes "loop")) (endingValue cycles) (now (rest .entry)) ⌝ }
+    ensures answer { λ r. ⌜ endingLineAs r ≡ keyedLine (isKey (bytes "loop")) (endingValue cycles) (now (rest .entry)) ⌝ }
 {
     let Cut::Line(equals, end) = text::line::cut_line(rest) else {
         return EndingLine::Wrong(Reason::WrongForm);
@@ -41,7 +41,7 @@ pub fn ending_line(rest: &[u8], cycles: usize) -> EndingLine
 
 // Why the line is refused.
 pub fn ending_reason(line: EndingLine) -> Reason
-    ensures { λ r. ⌜ r ≡ reasonOf line ⌝ }
+    ensures answer { λ r. ⌜ r ≡ reasonOf line ⌝ }
 {
     match line {
         EndingLine::Ending(_, _) => Reason::WrongForm,

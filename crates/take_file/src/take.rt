@@ -24,7 +24,7 @@ pub struct TakeAnswer {
 
 // A refusal of a take file.
 fn refuse(reason: Reason, line: usize) -> TakeAnswer
-    ensures { λ r. ⌜ r ≡ takeAnswer (refused reason line) ⌝ }
+    ensures answer { λ r. ⌜ r ≡ takeAnswer (refused reason line) ⌝ }
 {
     let lanes = [Lane { words: [0; 4] }; 32];
     TakeAnswer {
@@ -45,7 +45,7 @@ fn refuse(reason: Reason, line: usize) -> TakeAnswer
 // The cycles, one line each, and nothing behind them.
 fn read_cycles(body: &[u8], signals: usize, cycles: usize, ending: Ending) -> TakeAnswer
     requires { ⌜ (signals ≤ 32) × (cycles ≤ 256) ⌝ }
-    ensures { λ r. ⌜ r ≡ takeAnswer (mapResult (traceOf signals cycles ending)
+    ensures answer { λ r. ⌜ r ≡ takeAnswer (mapResult (traceOf signals cycles ending)
         (bodyLines 99 (λ c. digitsForm signals) cycles 0 5 (now (body .entry)))) ⌝ }
 {
     let mut rest = body;
@@ -76,7 +76,7 @@ fn read_cycles(body: &[u8], signals: usize, cycles: usize, ending: Ending) -> Ta
 
 // A take file: its trace, or the refusal.
 pub fn read_take(file: &[u8]) -> TakeAnswer
-    ensures { λ r. ⌜ r ≡ takeAnswer (parseTake (now (file .entry))) ⌝ }
+    ensures answer { λ r. ⌜ r ≡ takeAnswer (parseTake (now (file .entry))) ⌝ }
 {
     if 65536 < file.len() {
         return refuse(Reason::TooLong, 0);

@@ -13,14 +13,14 @@ pub enum Digits {
 
 // Whether a byte is 0 or 1.
 fn is_digit(d: u8) -> bool
-    ensures { λ r. ⌜ r ≡ areDigits (d ∷ []) ⌝ }
+    ensures answer { λ r. ⌜ r ≡ areDigits (d ∷ []) ⌝ }
 {
     (b'0' <= d) & (d <= b'1')
 }
 
 // Whether each byte is 0 or 1. No branch depends on a byte, so that the compiler can treat many bytes at a time.
 pub fn are_digits(value: &[u8]) -> bool
-    ensures { λ r. ⌜ r ≡ areDigits (now (value .entry)) ⌝ }
+    ensures answer { λ r. ⌜ r ≡ areDigits (now (value .entry)) ⌝ }
 {
     let mut all = true;
     let mut i = 0;
@@ -35,8 +35,8 @@ pub fn are_digits(value: &[u8]) -> bool
 // digits are gone through once.
 pub fn digits_line(rest: &[u8], letter: u8, number: usize, count: usize) -> Digits
     requires { ⌜ (letter ≡ 10 → ⊥) ⌝ }
-    ensures { λ r. ⌜ digitsAt (now (rest .entry)) r ≡ keyedLine (isNumbered letter number) (digitsForm count) (now (rest .entry)) ⌝ }
-    ensures { λ r. ⌜ DigitsWithin (now (rest .entry)) count r ⌝ }
+    ensures answer { λ r. ⌜ digitsAt (now (rest .entry)) r ≡ keyedLine (isNumbered letter number) (digitsForm count) (now (rest .entry)) ⌝ }
+    ensures within { λ r. ⌜ DigitsWithin (now (rest .entry)) count r ⌝ }
 {
     let Found::At(equals) = crate::search::find(rest, b'=') else {
         return Digits::Wrong;

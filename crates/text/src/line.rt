@@ -14,7 +14,7 @@ pub enum Cut {
 
 // The first line of what is left of a file.
 pub fn cut_line(rest: &[u8]) -> Cut
-    ensures { λ r. ⌜ r ≡ cutOf (now (rest .entry)) ⌝ }
+    ensures answer { λ r. ⌜ r ≡ cutOf (now (rest .entry)) ⌝ }
 {
     let Found::At(end) = crate::search::find(rest, b'\n') else {
         return Cut::Absent;
@@ -27,7 +27,7 @@ pub fn cut_line(rest: &[u8]) -> Cut
 
 // Whether a key is a letter and a number, as `r12`.
 pub fn is_numbered(key: &[u8], letter: u8, number: usize) -> bool
-    ensures { λ r. ⌜ r ≡ isNumbered letter number (now (key .entry)) ⌝ }
+    ensures answer { λ r. ⌜ r ≡ isNumbered letter number (now (key .entry)) ⌝ }
 {
     if key.len() == 0 {
         return false;
@@ -49,7 +49,7 @@ pub enum Counted {
 
 // A line `key=number`, with the number from low to high.
 pub fn count_line(rest: &[u8], key: &[u8], low: usize, high: usize, outside: Reason) -> Counted
-    ensures { λ r. ⌜ countedAs r ≡ keyedLine (isKey (now (key .entry))) (countForm low high outside) (now (rest .entry)) ⌝ }
+    ensures answer { λ r. ⌜ countedAs r ≡ keyedLine (isKey (now (key .entry))) (countForm low high outside) (now (rest .entry)) ⌝ }
 {
     let Cut::Line(equals, end) = cut_line(rest) else {
         return Counted::Wrong(Reason::WrongForm);
@@ -71,7 +71,7 @@ pub fn count_line(rest: &[u8], key: &[u8], low: usize, high: usize, outside: Rea
 
 // Why a count's line is refused.
 pub fn count_reason(counted: Counted) -> Reason
-    ensures { λ r. ⌜ r ≡ reasonOf counted ⌝ }
+    ensures answer { λ r. ⌜ r ≡ reasonOf counted ⌝ }
 {
     match counted {
         Counted::Count(_, _) => Reason::WrongForm,

@@ -10,7 +10,7 @@ pub enum Number {
 
 // The number that up to five decimal digits stand for.
 fn read_digits(s: &[u8]) -> Number
-    ensures { λ r. ⌜ r ≡ digitsOf (now (s .entry)) ⌝ }
+    ensures answer { λ r. ⌜ r ≡ digitsOf (now (s .entry)) ⌝ }
 {
     if 5 < s.len() {
         return Number::Not;
@@ -33,7 +33,7 @@ fn read_digits(s: &[u8]) -> Number
 
 // A number: one to five digits, without leading zeros.
 pub fn read_number(s: &[u8]) -> Number
-    ensures { λ r. ⌜ r ≡ numberOf (now (s .entry)) ⌝ }
+    ensures answer { λ r. ⌜ r ≡ numberOf (now (s .entry)) ⌝ }
 {
     if s.len() == 0 {
         return Number::Not;

@@ -11,7 +11,7 @@ pub enum Found {
 
 // The place of the first byte b in s.
 pub fn find(s: &[u8], b: u8) -> Found
-    ensures { λ r. ⌜ r ≡ firstOf b (now (s .entry)) ⌝ }
+    ensures answer { λ r. ⌜ r ≡ firstOf b (now (s .entry)) ⌝ }
 {
     let mut i = 0;
     while i < s.len() {
@@ -25,7 +25,7 @@ pub fn find(s: &[u8], b: u8) -> Found
 
 // Whether two byte strings are the same.
 pub fn same(a: &[u8], b: &[u8]) -> bool
-    ensures { λ r. ⌜ r ≡ sameBytes (now (a .entry)) (now (b .entry)) ⌝ }
+    ensures answer { λ r. ⌜ r ≡ sameBytes (now (a .entry)) (now (b .entry)) ⌝ }
 {
     if a.len() != b.len() {
         return false;

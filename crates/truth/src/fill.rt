@@ -20,7 +20,7 @@ pub struct Truth {
 
 fn span_of(cycles: u16, ending: Ending) -> Span
     requires { ⌜ (1 ≤ cycles) × (cycles ≤ 256) × LoopBelow cycles ending ⌝ }
-    ensures { λ r. ⌜ SpanOf cycles r × (r .ending ≡ ending) ⌝ }
+    ensures span { λ r. ⌜ SpanOf cycles r × (r .ending ≡ ending) ⌝ }
 {
     let n = cycles as usize;
     Span {
@@ -34,7 +34,7 @@ fn span_of(cycles: u16, ending: Ending) -> Span
 // costs a fixed number of operations on four words, whatever its operands.
 pub fn fill(form: NormalForm, trace: Trace) -> Truth
     requires { ⌜ InNormalForm form × InRange trace ⌝ }
-    ensures { λ r. ⌜ Filled form trace (r .lanes) ⌝ }
+    ensures filled { λ r. ⌜ Filled form trace (r .lanes) ⌝ }
 {
     let ending = trace.ending;
     let span = span_of(trace.cycles, ending);

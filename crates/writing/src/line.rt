@@ -12,7 +12,7 @@ use tables::refusal::Refusal;
 
 pub fn put_text_line(buf: &mut [u8], at: usize, key: &[u8], value: &[u8]) -> usize
     requires { ⌜ at + length (now key) + length (now value) + 2 ≤ length (now buf) ⌝ }
-    ensures { λ r. ⌜ Wrote (now (buf .entry)) at (writtenLine (now (key .entry)) (now (value .entry)) []) (now (buf .exit)) r ⌝ }
+    ensures text { λ r. ⌜ Wrote (now (buf .entry)) at (writtenLine (now (key .entry)) (now (value .entry)) []) (now (buf .exit)) r ⌝ }
 {
     let a = put(&mut *buf, at, key);
     let b = put_byte(&mut *buf, a, b'=');

@@ -15,7 +15,7 @@ use tables::row::NormalForm;
 // The lines of all rows.
 fn put_rows(buf: &mut [u8], at: usize, form: NormalForm) -> usize
     requires { ⌜ (form .rows ≤ 128) × (at + 2816 ≤ length (now buf)) ⌝ }
-    ensures { λ r. ⌜ Wrote (now (buf .entry)) at (writtenBody 114 writtenRow 1 (rowsOf form)) (now (buf .exit)) r ⌝ }
+    ensures text { λ r. ⌜ Wrote (now (buf .entry)) at (writtenBody 114 writtenRow 1 (rowsOf form)) (now (buf .exit)) r ⌝ }
 {
     let mut i = at;
     let mut k: u8 = 0;

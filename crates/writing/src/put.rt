@@ -10,7 +10,7 @@ ghost use Rattle.writing.specs.Lent.{Wrote, numberRoom};
 // Puts a text into the buffer, and answers the place behind it.
 pub fn put(buf: &mut [u8], at: usize, text: &[u8]) -> usize
     requires { ⌜ at + length (now text) ≤ length (now buf) ⌝ }
-    ensures { λ r. ⌜ Wrote (now (buf .entry)) at (now (text .entry)) (now (buf .exit)) r ⌝ }
+    ensures text { λ r. ⌜ Wrote (now (buf .entry)) at (now (text .entry)) (now (buf .exit)) r ⌝ }
 {
     let mut i = 0;
     while i < text.len() {
@@ -22,7 +22,7 @@ pub fn put(buf: &mut [u8], at: usize, text: &[u8]) -> usize
 
 pub fn put_byte(buf: &mut [u8], at: usize, b: u8) -> usize
     requires { ⌜ at + 1 ≤ length (now buf) ⌝ }
-    ensures { λ r. ⌜ Wrote (now (buf .entry)) at (b ∷ []) (now (buf .exit)) r ⌝ }
+    ensures text { λ r. ⌜ Wrote (now (buf .entry)) at (b ∷ []) (now (buf .exit)) r ⌝ }
 {
     buf[at] = b;
     at + 1
@@ -30,7 +30,7 @@ pub fn put_byte(buf: &mut [u8], at: usize, b: u8) -> usize
 
 fn digit(n: u32) -> u8
     requires { ⌜ n < 10 ⌝ }
-    ensures { λ r. ⌜ r ≡ 48 + n ⌝ }
+    ensures answer { λ r. ⌜ r ≡ 48 + n ⌝ }
 {
     48 + n as u8
 }

@@ -26,8 +26,8 @@ fn put_word(buf: &mut [u8], at: usize, place: usize) -> usize
 // A space and a number.
 fn put_operand(buf: &mut [u8], at: usize, a: u8) -> usize
     requires { ⌜ at + 4 ≤ length (now buf) ⌝ }
-    ensures { λ r. ⌜ Wrote (now (buf .entry)) at (32 ∷ decimal a) (now (buf .exit)) r ⌝ }
-    ensures { λ r. ⌜ r ≤ at + 4 ⌝ }
+    ensures text { λ r. ⌜ Wrote (now (buf .entry)) at (32 ∷ decimal a) (now (buf .exit)) r ⌝ }
+    ensures room { λ r. ⌜ r ≤ at + 4 ⌝ }
 {
     let i = put_byte(&mut *buf, at, b' ');
     put_number(buf, i, a as u32)
@@ -35,8 +35,8 @@ fn put_operand(buf: &mut [u8], at: usize, a: u8) -> usize
 
 fn put_row(buf: &mut [u8], at: usize, row: Row) -> usize
     requires { ⌜ at + 16 ≤ length (now buf) ⌝ }
-    ensures { λ r. ⌜ Wrote (now (buf .entry)) at (writtenRow row) (now (buf .exit)) r ⌝ }
-    ensures { λ r. ⌜ r ≤ at + 16 ⌝ }
+    ensures text { λ r. ⌜ Wrote (now (buf .entry)) at (writtenRow row) (now (buf .exit)) r ⌝ }
+    ensures room { λ r. ⌜ r ≤ at + 16 ⌝ }
 {
     let i = put_word(&mut *buf, at, kind::place_of(row));
     match row {
@@ -53,8 +53,8 @@ fn put_row(buf: &mut [u8], at: usize, row: Row) -> usize
 // The line of row `number`.
 pub fn put_row_line(buf: &mut [u8], at: usize, number: u8, row: Row) -> usize
     requires { ⌜ at + 22 ≤ length (now buf) ⌝ }
-    ensures { λ r. ⌜ Wrote (now (buf .entry)) at (writtenLine (114 ∷ decimal number) (writtenRow row) []) (now (buf .exit)) r ⌝ }
-    ensures { λ r. ⌜ r ≤ at + 22 ⌝ }
+    ensures text { λ r. ⌜ Wrote (now (buf .entry)) at (writtenLine (114 ∷ decimal number) (writtenRow row) []) (now (buf .exit)) r ⌝ }
+    ensures room { λ r. ⌜ r ≤ at + 22 ⌝ }
 {
     let a = put_byte(&mut *buf, at, b'r');
     let b = put_number(&mut *buf, a, number as u32);

@@ -10,16 +10,39 @@ use Rattle.check_text.proofs.check_met.Statement.{statement}
 use Rattle.check_text.proofs.check_met.Tie as tie
 
 deliver-refusal-requires : tie.Need-deliver-refusal-requires
-deliver-refusal-requires c κs = let a = c .before .before .before .before .before .before .args in omega (arith, met-line (a .formula) (a .trace) (a .activation) (answer-refused (a .formula) (a .trace) (a .activation) (metOutcome (a .formula) (a .trace) (a .activation)) (c .before .before .before .before .check-met .ensures .so) (c .before .before .answer .given .1)))
+deliver-refusal-requires c κs =
+    let args = c .before .before .before .before .before .before .args in
+    let check-met = c .before .before .before .before .check-met in
+    let a = args in omega (
+      arith,
+      met-line (a .formula) (a .trace) (a .activation) (answer-refused (a .formula) (a .trace) (a .activation)
+          (metOutcome (a .formula) (a .trace) (a .activation)) (check-met .ensures .so) (c .before .before .answer .given .1)),
+    )
 
 deliver-finding-requires : tie.Need-deliver-finding-requires
-deliver-finding-requires c κs = let a = c .before .before .before .before .before .before .args in finding-cycle _ (a .trace) (a .activation) (c .before .before .before .before .before .before .pre .1) _ (told-checked (a .formula) (a .trace) (a .activation) (metOutcome (a .formula) (a .trace) (a .activation)) (c .before .before .before .before .check-met .ensures .so) (c .before .before .answer2 .given .1) .1)
+deliver-finding-requires c κs =
+    let args = c .before .before .before .before .before .before .args in
+    let pre = c .before .before .before .before .before .before .pre in
+    let check-met = c .before .before .before .before .check-met in
+    let a = args in finding-cycle _ (a .trace) (a .activation) (pre .1) _ (told-checked (a .formula) (a .trace) (a .activation) (metOutcome (a
+    .formula) (a .trace) (a .activation)) (check-met .ensures .so) (c .before .before .answer2 .given .1) .1)
 
 returns : tie.Need-returns
-returns c = let a = c .before .before .before .before .before .before .before .before .before .args in told-refused _ (IsFindingText (a .formula) (a .trace) (a .activation)) (answer-refused (a .formula) (a .trace) (a .activation) (metOutcome (a .formula) (a .trace) (a .activation)) (c .before .before .before .before .before .before .before .check-met .ensures .so) (c .before .before .before .before .before .answer .given .1)) (c .before .before .deliver-refusal .ensures)
+returns c =
+    let args = c .before .before .before .before .before .before .before .before .before .args in
+    let check-met = c .before .before .before .before .before .before .before .check-met in
+    let answer = c .before .before .before .before .before .answer in
+    let a = args in told-refused _ (IsFindingText (a .formula) (a .trace) (a .activation)) (answer-refused (a .formula) (a .trace) (a .activation)
+    (metOutcome (a .formula) (a .trace) (a .activation)) (check-met .ensures .so) (answer .given .1)) (c .before .before .deliver-refusal .ensures)
 
 returns-2 : tie.Need-returns-2
-returns-2 c = let a = c .before .before .before .before .before .before .before .before .before .args in let x = told-checked (a .formula) (a .trace) (a .activation) (metOutcome (a .formula) (a .trace) (a .activation)) (c .before .before .before .before .before .before .before .check-met .ensures .so) (c .before .before .before .before .before .answer2 .given .1) in told-accepted _ (IsFindingText (a .formula) (a .trace) (a .activation)) _ (x .0) (_, x .1, refl) (c .before .before .deliver-finding .ensures)
+returns-2 c =
+    let args = c .before .before .before .before .before .before .before .before .before .args in
+    let check-met = c .before .before .before .before .before .before .before .check-met in
+    let answer2 = c .before .before .before .before .before .answer2 in
+    let a = args in let x = told-checked (a .formula) (a .trace) (a .activation) (metOutcome (a .formula) (a .trace) (a .activation)) (check-met
+    .ensures .so) (answer2 .given .1) in told-accepted _ (IsFindingText (a .formula) (a .trace) (a .activation)) _ (x .0) (_, x .1, refl) (c .before
+    .before .deliver-finding .ensures)
 
 pub check-met-spec : {M : Type 1} → statement M
 check-met-spec =

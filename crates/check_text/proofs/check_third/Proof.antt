@@ -8,13 +8,36 @@ use Rattle.check_text.proofs.check_third.Statement.{statement}
 use Rattle.check_text.proofs.check_third.Tie as tie
 
 deliver-refusal-requires : tie.Need-deliver-refusal-requires
-deliver-refusal-requires c κs = let was = c .before .before .before .before .before .pre .2 in omega (arith, sheet-outcome-line _ _ (sheet-said (parseSheet (was .0)) (c .before .before .before .before .before .args .third) (was .1) (c .before .before .outcome .given .1)))
+deliver-refusal-requires c κs =
+    let args = c .before .before .before .before .before .args in
+    let pre = c .before .before .before .before .before .pre in
+    let was = pre .2 in omega (
+      arith,
+      sheet-outcome-line _ _ (sheet-said (parseSheet (was .0)) (args .third) (was .1) (c .before .before .outcome
+          .given .1)),
+    )
 
 returns : tie.Need-returns
-returns c = λ sheet d. record { text = _; is-text = file-refused 3 (parseSheet sheet) _ _ (sheet-said (parseSheet sheet) (c .before .before .before .before .before .before .before .before .args .third) d (c .before .before .before .before .before .outcome .given .1)) refl; delivered = c .before .before .deliver-refusal .ensures }
+returns c =
+    let args = c .before .before .before .before .before .before .before .before .args in
+    let outcome = c .before .before .before .before .before .outcome in
+    λ sheet d. record {
+      text = _;
+      is-text = file-refused 3 (parseSheet sheet) _ _ (sheet-said (parseSheet sheet) (args .third) d (outcome .given .1))
+          refl;
+      delivered = c .before .before .deliver-refusal .ensures;
+    }
 
 returns-2 : tie.Need-returns-2
-returns-2 c = λ sheet d. let x = c .before .before .check-met .ensures in record { text = x .text; is-text = file-read 3 (parseSheet sheet) _ _ (sheet-is (parseSheet sheet) (c .before .before .before .before .before .before .before .args .third) d (c .before .before .before .before .enum-told .given .1)) (x .is-text); delivered = x .delivered }
+returns-2 c =
+    let args = c .before .before .before .before .before .before .before .args in
+    let enum-told = c .before .before .before .before .enum-told in
+    λ sheet d. let x = c .before .before .check-met .ensures in record {
+      text = x .text;
+      is-text = file-read 3 (parseSheet sheet) _ _ (sheet-is
+          (parseSheet sheet) (args .third) d (enum-told .given .1)) (x .is-text);
+      delivered = x .delivered;
+    }
 
 pub check-third-spec : {M : Type 1} → statement M
 check-third-spec =

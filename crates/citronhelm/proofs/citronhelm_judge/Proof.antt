@@ -6,13 +6,24 @@ use Rattle.citronhelm.proofs.citronhelm_judge.Statement.{statement}
 use Rattle.citronhelm.proofs.citronhelm_judge.Tie as tie
 
 judge-met-requires : tie.Need-judge-met-requires
-judge-met-requires c κs = pair-range (c .before .before .read-pair .result) (record { rule = c .before .before .before .before .before .args .rule .now; take = c .before .before .before .before .before .args .take .now; is-read = c .before .before .read-pair .ensures }) (c .enum-told .given .1)
+judge-met-requires c κs =
+    let args = c .before .before .before .before .before .args in
+    let read-pair = c .before .before .read-pair in
+    pair-range (read-pair .result) (record { rule = args .rule .now; take = args .take .now; is-read = read-pair .ensures }) (c .enum-told .given .1)
 
 returns : tie.Need-returns
-returns c = pair-refused (parseRule (c .before .before .before .before .before .before .before .args .rule .now)) (parseTake (c .before .before .before .before .before .before .before .args .take .now)) (c .before .before .before .before .read-pair .result) (c .before .before .before .before .read-pair .ensures) _ _ (c .before .before .outcome .given .1) (c .refusal-code .ensures)
+returns c =
+    let args = c .before .before .before .before .before .before .before .args in
+    let read-pair = c .before .before .before .before .read-pair in
+    pair-refused (parseRule (args .rule .now)) (parseTake (args .take .now)) (read-pair .result) (read-pair .ensures) _ _ (c .before .before .outcome
+    .given .1) (c .refusal-code .ensures)
 
 returns-2 : tie.Need-returns-2
-returns-2 c = pair-read (parseRule (c .before .before .before .before .before .before .before .args .rule .now)) (parseTake (c .before .before .before .before .before .before .before .args .take .now)) (c .before .before .before .before .read-pair .result) (c .before .before .before .before .read-pair .ensures) _ _ (c .before .before .enum-told .given .1) (record { answer = _; answers = c .before .judge-met .ensures; coded = c .judge-code .ensures })
+returns-2 c =
+    let args = c .before .before .before .before .before .before .before .args in
+    let read-pair = c .before .before .before .before .read-pair in
+    pair-read (parseRule (args .rule .now)) (parseTake (args .take .now)) (read-pair .result) (read-pair .ensures) _ _ (c .before .before .enum-told
+    .given .1) (record { answer = _; answers = c .before .judge-met .ensures; coded = c .judge-code .ensures })
 
 pub citronhelm-judge-spec : {M : Type 1} → statement M
 citronhelm-judge-spec =

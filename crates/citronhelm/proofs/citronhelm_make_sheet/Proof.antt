@@ -7,13 +7,26 @@ use Rattle.citronhelm.proofs.citronhelm_make_sheet.Statement.{statement
 use Rattle.citronhelm.proofs.citronhelm_make_sheet.Tie as tie
 
 make-met-requires : tie.Need-make-met-requires
-make-met-requires c κs = pair-range (c .before .before .before .read-pair .result) (record { rule = c .before .before .before .before .before .before .before .args .rule .now; take = c .before .before .before .before .before .before .before .args .take .now; is-read = c .before .before .before .read-pair .ensures }) (c .before .enum-told .given .1)
+make-met-requires c κs =
+    let args = c .before .before .before .before .before .before .before .args in
+    let read-pair = c .before .before .before .read-pair in
+    pair-range (read-pair .result) (record { rule = args .rule .now; take = args .take .now; is-read = read-pair .ensures }) (c .before .enum-told
+    .given .1)
 
 returns : tie.Need-returns
-returns c = pair-refused (parseRule (c .before .before .before .before .before .before .before .before .args .rule .now)) (parseTake (c .before .before .before .before .before .before .before .before .args .take .now)) (c .before .before .before .before .read-pair .result) (c .before .before .before .before .read-pair .ensures) _ _ (c .before .before .outcome .given .1) (c .refusal-code .ensures, refl)
+returns c =
+    let args = c .before .before .before .before .before .before .before .before .args in
+    let read-pair = c .before .before .before .before .read-pair in
+    pair-refused (parseRule (args .rule .now)) (parseTake (args .take .now)) (read-pair .result) (read-pair .ensures) _ _ (c .before .before .outcome
+    .given .1) (c .refusal-code .ensures, refl)
 
 returns-2 : tie.Need-returns-2
-returns-2 c = pair-read (parseRule (c .before .before .before .before .before .before .before .before .before .before .before .args .rule .now)) (parseTake (c .before .before .before .before .before .before .before .before .before .before .before .args .take .now)) (c .before .before .before .before .before .before .before .read-pair .result) (c .before .before .before .before .before .before .before .read-pair .ensures) _ _ (c .before .before .before .before .before .enum-told .given .1) (record { answer = _; makes = c .before .before .before .make-met .ensures; coded = c .maker-code .ensures })
+returns-2 c =
+    let args = c .before .before .before .before .before .before .before .before .before .before .before .args in
+    let read-pair = c .before .before .before .before .before .before .before .read-pair in
+    let enum-told = c .before .before .before .before .before .enum-told in
+    pair-read (parseRule (args .rule .now)) (parseTake (args .take .now)) (read-pair .result) (read-pair .ensures) _ _ (enum-told .given .1) (record
+    { answer = _; makes = c .before .before .before .make-met .ensures; coded = c .maker-code .ensures })
 
 pub citronhelm-make-sheet-spec : {M : Type 1} → statement M
 citronhelm-make-sheet-spec =

@@ -14,10 +14,21 @@ write-form-requires c κs =
     rule-valid _ _ (rule-is p (read .result) (read .ensures) (c .before .before .enum-told .given .1)) .in-range
 
 returns : tie.Need-returns
-returns c = let p = parseRule (c .before .before .before .before .before .before .before .args .rule .now) in file-refused 1 p _ _ (rule-said p (c .before .before .before .before .read-rule .result) (c .before .before .before .before .read-rule .ensures) (c .before .before .outcome .given .1)) (c .refusal-code .ensures, refl)
+returns c =
+    let read-rule = c .before .before .before .before .read-rule in
+    let args = c .before .before .before .before .before .before .before .args in
+    let p = parseRule (args .rule .now) in file-refused 1 p _ _ (rule-said p (read-rule .result) (read-rule .ensures) (c .before .before .outcome
+    .given .1)) (c .refusal-code .ensures, refl)
 
 returns-2 : tie.Need-returns-2
-returns-2 c = let p = parseRule (c .before .before .before .before .before .before .before .before .before .before .before .args .rule .now) in file-read 1 p _ _ (rule-is p (c .before .before .before .before .before .before .before .before .read-rule .result) (c .before .before .before .before .before .before .before .before .read-rule .ensures) (c .before .before .before .before .before .before .enum-told .given .1)) (rw (← c .before .before .before .before .before .sign-named .ensures) (c .bytes-code .ensures ∙ ap bytesCode (c .before .before .before .write-form .ensures .answered), c .before .before .before .write-form .ensures .left))
+returns-2 c =
+    let read-rule = c .before .before .before .before .before .before .before .before .read-rule in
+    let args = c .before .before .before .before .before .before .before .before .before .before .before .args in
+    let write-form = c .before .before .before .write-form in
+    let enum-told = c .before .before .before .before .before .before .enum-told in
+    let sign-named = c .before .before .before .before .before .sign-named in
+    let p = parseRule (args .rule .now) in file-read 1 p _ _ (rule-is p (read-rule .result) (read-rule .ensures) (enum-told .given .1)) (rw (←
+    sign-named .ensures) (c .bytes-code .ensures ∙ ap bytesCode (write-form .ensures .answered), write-form .ensures .left))
 
 pub citronhelm-normal-spec : {M : Type 1} → statement M
 citronhelm-normal-spec =

@@ -14,10 +14,18 @@ normal-form-requires c κs =
     rule-valid _ _ (rule-is p (read .result) (read .ensures) (c .enum-told .given .1)) .in-range
 
 returns : tie.Need-returns
-returns c = let p = parseRule (c .before .before .before .before .before .before .args .rule .now) in file-refused 1 p _ _ (rule-said p (c .before .before .before .before .read-rule .result) (c .before .before .before .before .read-rule .ensures) (c .before .before .outcome .given .1)) (c .refusal-code .ensures)
+returns c =
+    let read-rule = c .before .before .before .before .read-rule in
+    let args = c .before .before .before .before .before .before .args in
+    let p = parseRule (args .rule .now) in file-refused 1 p _ _ (rule-said p (read-rule .result) (read-rule .ensures) (c .before .before .outcome
+    .given .1)) (c .refusal-code .ensures)
 
 returns-2 : tie.Need-returns-2
-returns-2 c = let p = parseRule (c .before .before .before .before .before .before .args .rule .now) in file-read 1 p _ _ (rule-is p (c .before .before .before .before .read-rule .result) (c .before .before .before .before .read-rule .ensures) (c .before .before .enum-told .given .1)) (ap (λ (g : NormalForm). g .rows) (c .before .normal-form .ensures))
+returns-2 c =
+    let read-rule = c .before .before .before .before .read-rule in
+    let args = c .before .before .before .before .before .before .args in
+    let p = parseRule (args .rule .now) in file-read 1 p _ _ (rule-is p (read-rule .result) (read-rule .ensures) (c .before .before .enum-told .given
+    .1)) (ap (λ (g : NormalForm). g .rows) (c .before .normal-form .ensures))
 
 pub citronhelm-rows-spec : {M : Type 1} → statement M
 citronhelm-rows-spec =

@@ -8,7 +8,9 @@ judge-met-requires : tie.Need-judge-met-requires
 judge-met-requires c κs = c .before .before .check-own .ensures .1 (c .enum-told .given .1)
 
 returns : tie.Need-returns
-returns c = rw (know (c .before .before .before .check-own .ensures .0) (c .before .own .given .1)) (only-refused (c .before .before .before .before .args .formula) (c .before .before .before .before .args .trace) _)
+returns c =
+    let args = c .before .before .before .before .args in
+    rw (know (c .before .before .before .check-own .ensures .0) (c .before .own .given .1)) (only-refused (args .formula) (args .trace) _)
 
 returns-2 : tie.Need-returns-2
 returns-2 c = rw (know (c .before .before .before .check-own .ensures .0) (c .before .enum-told .given .1)) (c .judge-met .ensures)

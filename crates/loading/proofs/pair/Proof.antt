@@ -6,7 +6,15 @@ use Rattle.loading.proofs.pair.Statement.{statement}
 use Rattle.loading.proofs.pair.Tie as tie
 
 returns : tie.Need-returns
-returns c = let a = c .before .before .before .before .before .load-rule .ensures in let b = c .before .before .load-take .ensures in record { rule = a .0; take = b .0; is-read = pair-is (parseRule (a .0)) (parseTake (b .0)) (c .before .before .before .before .before .load-rule .result) (c .before .before .load-take .result) _ (a .1) (b .1) (c .join .ensures) }
+returns c =
+    let load-rule = c .before .before .before .before .before .load-rule in
+    let load-take = c .before .before .load-take in
+    let a = load-rule .ensures in let b = load-take .ensures in record {
+      rule = a .0;
+      take = b .0;
+      is-read = pair-is (parseRule (a .0)) (parseTake (b
+          .0)) (load-rule .result) (load-take .result) _ (a .1) (b .1) (c .join .ensures);
+    }
 
 pub pair-spec : {M : Type 1} → statement M
 pair-spec =

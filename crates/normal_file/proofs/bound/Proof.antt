@@ -11,7 +11,10 @@ returns : tie.Need-returns
 returns c = sym (rw (know (c .before .before .before .check-formula .ensures .0) (c .before .outcome .given .1)))
 
 returns-2 : tie.Need-returns-2
-returns-2 c = ap Count (c .bound-of .ensures) ∙ sym (ap (λ o. onOutcome o Refused (Count (boundOf (c .before .before .before .before .args .formula)))) (know (c .before .before .before .check-formula .ensures .0) (c .before .enum-told .given .1)))
+returns-2 c =
+    let check-formula = c .before .before .before .check-formula in
+    ap Count (c .bound-of .ensures) ∙ sym (ap (λ o. onOutcome o Refused (Count (boundOf (c .before .before .before .before .args .formula)))) (know
+    (check-formula .ensures .0) (c .before .enum-told .given .1)))
 
 pub bound-spec : {M : Type 1} → statement M
 bound-spec =

@@ -6,7 +6,10 @@ use Rattle.rule_and_take.proofs.join.Statement.{statement}
 use Rattle.rule_and_take.proofs.join.Tie as tie
 
 returns : tie.Need-returns
-returns c = ap {A = Outcome} {B = Pair} (λ o. record { outcome = o; formula = c .before .before .before .args .first .formula; trace = c .before .before .before .args .second .trace }) (c .before .before .first-refusal .ensures)
+returns c =
+    let args = c .before .before .before .args in
+    ap {A = Outcome} {B = Pair} (λ o. record { outcome = o; formula = args .first .formula; trace = args .second .trace }) (c .before .before
+    .first-refusal .ensures)
 
 pub join-spec : {M : Type 1} → statement M
 join-spec = tie.close (tie.spec (λ c κs. search needs) returns)

@@ -35,11 +35,21 @@ slice-aggregate-same c = sym (length-take-le _ _ (rw (c .before .before .before 
 
 returns : tie.Need-returns Inv-loop μ-loop
 unfolding kindNamed kinds kindAt
-returns c = first-hit (c .before .before .before .before .before .before .loop .inv) noKind (search needs) (subst (λ (l : List Kind). sameBytes (c .before .before .before .before .before .before .before .before .before .args .word .now) (wordOf (getD l (c .before .before .before .before .before .before .loop .place) noKind)) ≡ true) (c .before .before .before .before .before .before .before .table .ensures) (know (c .before .same .ensures) (c .if1 .taken)))
+returns c =
+    let loop-state = c .before .before .before .before .before .before .loop in
+    let args = c .before .before .before .before .before .before .before .before .before .args in
+    let table = c .before .before .before .before .before .before .before .table in
+    first-hit (loop-state .inv) noKind (search needs) (subst (λ (l : List Kind). sameBytes (args .word .now) (wordOf (getD l (loop-state .place)
+    noKind)) ≡ true) (table .ensures) (know (c .before .same .ensures) (c .if1 .taken)))
 
 loop-again : tie.Need-loop-again Inv-loop μ-loop
 unfolding kinds kindAt
-loop-again c = first-miss (c .before .before .before .before .before .before .loop .inv) noKind (search needs) (subst (λ (l : List Kind). sameBytes (c .before .before .before .before .before .before .before .before .before .args .word .now) (wordOf (getD l (c .before .before .before .before .before .before .loop .place) noKind)) ≡ false) (c .before .before .before .before .before .before .before .table .ensures) (know (c .before .same .ensures) (c .if1 .left)))
+loop-again c =
+    let loop-state = c .before .before .before .before .before .before .loop in
+    let args = c .before .before .before .before .before .before .before .before .before .args in
+    let table = c .before .before .before .before .before .before .before .table in
+    first-miss (loop-state .inv) noKind (search needs) (subst (λ (l : List Kind). sameBytes (args .word .now) (wordOf (getD l (loop-state .place)
+    noKind)) ≡ false) (table .ensures) (know (c .before .same .ensures) (c .if1 .left)))
 
 returns-2 : tie.Need-returns-2 Inv-loop μ-loop
 unfolding kindNamed kinds

@@ -26,35 +26,101 @@ part-numbers-start c = omega (arith, found _ _ 0 (c .before .before .before .bef
 
 returns-2 : tie.Need-returns-2
 unfolding rowForm
-returns-2 c = rw (know (c .before .before .before .before .before .before .before .before .before .before .before .find .ensures) (c .before .before .before .before .before .before .before .before .before .space .given .1), know (rw rest-part at (c .before .before .before .before .before .find2 .ensures)) (c .before .before .before .enum-told2 .given .1), know (rw rest-part at (c .before .before .read-number .ensures)) (c .enum-told3 .given .1))
+returns-2 c =
+    let find = c .before .before .before .before .before .before .before .before .before .before .before .find in
+    let space = c .before .before .before .before .before .before .before .before .before .space in
+    let find2 = c .before .before .before .before .before .find2 in
+    rw (
+      know (find .ensures) (space .given .1),
+      know (rw rest-part at (find2 .ensures)) (c .before .before .before .enum-told2 .given .1),
+      know (rw
+          rest-part at (c .before .before .read-number .ensures)) (c .enum-told3 .given .1),
+    )
 
 returns-3 : tie.Need-returns-3
 unfolding rowForm
-returns-3 c = c .form-of2 .ensures ∙ rw (know (c .before .before .before .before .before .before .before .before .before .before .before .before .before .find .ensures) (c .before .before .before .before .before .before .before .before .before .before .before .space .given .1), know (rw rest-part at (c .before .before .before .before .before .before .before .find2 .ensures)) (c .before .before .before .before .before .enum-told2 .given .1), know (rw rest-part at (c .before .before .before .before .read-number .ensures)) (c .before .before .only .given .1))
+returns-3 c =
+    let find = c .before .before .before .before .before .before .before .before .before .before .before .before .before .find in
+    let space = c .before .before .before .before .before .before .before .before .before .before .before .space in
+    let find2 = c .before .before .before .before .before .before .before .find2 in
+    let enum-told2 = c .before .before .before .before .before .enum-told2 in
+    let read-number = c .before .before .before .before .read-number in
+    c .form-of2 .ensures ∙ rw (
+      know (find .ensures) (space .given .1),
+      know (rw rest-part at (find2 .ensures)) (enum-told2 .given .1),
+      know (rw
+          rest-part at (read-number .ensures)) (c .before .before .only .given .1),
+    )
 
 slice-aggregate-read-number : tie.Need-slice-aggregate-read-number
 slice-aggregate-read-number c = simp length-take (omega (arith, simp length-take at (found _ _ 0 (c .before .before .before .before .find2 .ensures) (c .before .before .between .given .1) .below)))
 
 returns-4 : tie.Need-returns-4
 unfolding rowForm
-returns-4 c = rw (know (c .before .before .before .before .before .before .before .before .before .before .before .before .before .find .ensures) (c .before .before .before .before .before .before .before .before .before .before .before .space .given .1), know (rw rest-part at (c .before .before .before .before .before .before .before .find2 .ensures)) (c .before .before .before .before .before .between .given .1), know (rw rest-part at (c .before .before .read-number2 .ensures)) (c .enum-told4 .given .1))
+returns-4 c =
+    let find = c .before .before .before .before .before .before .before .before .before .before .before .before .before .find in
+    let space = c .before .before .before .before .before .before .before .before .before .before .before .space in
+    let find2 = c .before .before .before .before .before .before .before .find2 in
+    let between = c .before .before .before .before .before .between in
+    rw (
+      know (find .ensures) (space .given .1),
+      know (rw rest-part at (find2 .ensures)) (between .given .1),
+      know (rw rest-part at (c .before .before
+          .read-number2 .ensures)) (c .enum-told4 .given .1),
+    )
 
 add-read-number : tie.Need-add-read-number
-add-read-number c = omega (arith, found _ _ 0 (c .before .before .before .before .before .before .before .before .find2 .ensures) (c .before .before .before .before .before .before .between .given .1) .below)
+add-read-number c =
+    let find2 = c .before .before .before .before .before .before .before .before .find2 in
+    let between = c .before .before .before .before .before .before .between in
+    omega (arith, found _ _ 0 (find2 .ensures) (between .given .1) .below)
 
 sub-read-number : tie.Need-sub-read-number
-sub-read-number c = omega (arith, found _ _ 0 (c .before .before .before .before .before .before .before .before .find2 .ensures) (c .before .before .before .before .before .before .between .given .1) .below)
+sub-read-number c =
+    let find2 = c .before .before .before .before .before .before .before .before .find2 in
+    let between = c .before .before .before .before .before .before .between in
+    omega (arith, found _ _ 0 (find2 .ensures) (between .given .1) .below)
 
 part-read-number-start : tie.Need-part-read-number-start
-part-read-number-start c = omega (arith, found _ _ 0 (c .before .before .before .before .before .before .before .before .find2 .ensures) (c .before .before .before .before .before .before .between .given .1) .below)
+part-read-number-start c =
+    let find2 = c .before .before .before .before .before .before .before .before .find2 in
+    let between = c .before .before .before .before .before .before .between in
+    omega (arith, found _ _ 0 (find2 .ensures) (between .given .1) .below)
 
 returns-5 : tie.Need-returns-5
 unfolding rowForm
-returns-5 c = rw (know (c .before .before .before .before .before .before .before .before .before .before .before .before .before .before .before .before .before .before .find .ensures) (c .before .before .before .before .before .before .before .before .before .before .before .before .before .before .before .before .space .given .1), know (rw rest-part at (c .before .before .before .before .before .before .before .before .before .before .before .before .find2 .ensures)) (c .before .before .before .before .before .before .before .before .before .before .between .given .1), know (rw rest-part at (c .before .before .before .before .before .before .before .read-number2 .ensures)) (c .before .before .before .before .before .first .given .1), know (simp rest-part at (c .before .before .read-number3 .ensures)) (c .enum-told5 .given .1))
+returns-5 c =
+    let find = c .before .before .before .before .before .before .before .before .before .before .before .before .before .before .before .before .before .before .find in
+    let space = c .before .before .before .before .before .before .before .before .before .before .before .before .before .before .before .before .space in
+    let find2 = c .before .before .before .before .before .before .before .before .before .before .before .before .find2 in
+    let between = c .before .before .before .before .before .before .before .before .before .before .between in
+    let read-number2 = c .before .before .before .before .before .before .before .read-number2 in
+    let first = c .before .before .before .before .before .first in
+    rw (
+      know (find .ensures) (space .given .1),
+      know (rw rest-part at (find2 .ensures)) (between .given .1),
+      know (rw rest-part at (read-number2
+          .ensures)) (first .given .1),
+      know (simp rest-part at (c .before .before .read-number3 .ensures)) (c .enum-told5 .given .1),
+    )
 
 returns-6 : tie.Need-returns-6
 unfolding rowForm
-returns-6 c = c .form-of3 .ensures ∙ rw (know (c .before .before .before .before .before .before .before .before .before .before .before .before .before .before .before .before .before .before .before .before .find .ensures) (c .before .before .before .before .before .before .before .before .before .before .before .before .before .before .before .before .before .before .space .given .1), know (rw rest-part at (c .before .before .before .before .before .before .before .before .before .before .before .before .before .before .find2 .ensures)) (c .before .before .before .before .before .before .before .before .before .before .before .before .between .given .1), know (rw rest-part at (c .before .before .before .before .before .before .before .before .before .read-number2 .ensures)) (c .before .before .before .before .before .before .before .first .given .1), know (simp rest-part at (c .before .before .before .before .read-number3 .ensures)) (c .before .before .second .given .1))
+returns-6 c =
+    let find = c .before .before .before .before .before .before .before .before .before .before .before .before .before .before .before .before .before .before .before .before .find in
+    let space = c .before .before .before .before .before .before .before .before .before .before .before .before .before .before .before .before .before .before .space in
+    let find2 = c .before .before .before .before .before .before .before .before .before .before .before .before .before .before .find2 in
+    let between = c .before .before .before .before .before .before .before .before .before .before .before .before .between in
+    let read-number2 = c .before .before .before .before .before .before .before .before .before .read-number2 in
+    let first = c .before .before .before .before .before .before .before .first in
+    let read-number3 = c .before .before .before .before .read-number3 in
+    c .form-of3 .ensures ∙ rw (
+      know (find .ensures) (space .given .1),
+      know (rw rest-part at (find2 .ensures)) (between .given .1),
+      know (rw
+          rest-part at (read-number2 .ensures)) (first .given .1),
+      know (simp rest-part at (read-number3 .ensures)) (c .before .before .second .given .1),
+    )
 
 pub row-form-spec : {M : Type 1} → statement M
 row-form-spec =

@@ -20,7 +20,10 @@ slice-aggregate-is-numbered : tie.Need-slice-aggregate-is-numbered
 slice-aggregate-is-numbered c = simp length-take (omega (arith, cut-known _ (c .before .before .before .before .cut-line .ensures) (c .before .before .equals .given .1)))
 
 returns-2 : tie.Need-returns-2
-returns-2 c = sym (keyed-other _ _ _ (know (c .before .before .before .before .before .before .cut-line .ensures) (c .before .before .before .before .equals .given .1)) (know (c .before .is-numbered .ensures) (not-true _ (c .if1 .taken))))
+returns-2 c =
+    let cut-line = c .before .before .before .before .before .before .cut-line in
+    let equals = c .before .before .before .before .equals in
+    sym (keyed-other _ _ _ (know (cut-line .ensures) (equals .given .1)) (know (c .before .is-numbered .ensures) (not-true _ (c .if1 .taken))))
 
 add-row-form : tie.Need-add-row-form
 add-row-form c = omega (arith, cut-known _ (c .before .before .before .before .before .before .cut-line .ensures) (c .before .before .before .before .equals .given .1))
@@ -35,13 +38,29 @@ part-row-form-end : tie.Need-part-row-form-end
 part-row-form-end c = omega (arith, cut-known _ (c .before .before .before .before .before .before .cut-line .ensures) (c .before .before .before .before .equals .given .1))
 
 returns-3 : tie.Need-returns-3
-returns-3 c = sym (keyed-bad _ _ _ (know (c .before .before .before .before .before .before .before .before .before .before .cut-line .ensures) (c .before .before .before .before .before .before .before .before .equals .given .1)) (know (c .before .before .before .before .before .is-numbered .ensures) (not-false _ (c .before .before .before .before .if1 .left))) (value-formless _ _ _ (sym (c .before .before .row-form .ensures) ∙ ap formAs (c .enum-told2 .given .1))))
+returns-3 c =
+    let cut-line = c .before .before .before .before .before .before .before .before .before .before .cut-line in
+    let equals = c .before .before .before .before .before .before .before .before .equals in
+    let is-numbered = c .before .before .before .before .before .is-numbered in
+    sym (keyed-bad _ _ _ (know (cut-line .ensures) (equals .given .1)) (know (is-numbered .ensures) (not-false _ (c .before .before .before .before
+    .if1 .left))) (value-formless _ _ _ (sym (c .before .before .row-form .ensures) ∙ ap formAs (c .enum-told2 .given .1))))
 
 returns-4 : tie.Need-returns-4
-returns-4 c = sym (keyed-bad _ _ _ (know (c .before .before .before .before .before .before .before .before .before .before .before .before .before .cut-line .ensures) (c .before .before .before .before .before .before .before .before .before .before .before .equals .given .1)) (know (c .before .before .before .before .before .before .before .before .is-numbered .ensures) (not-false _ (c .before .before .before .before .before .before .before .if1 .left))) (value-outside _ _ _ (sym (c .before .before .before .before .before .row-form .ensures) ∙ ap formAs (c .before .before .before .row .given .1)) (know (c .before .in-range .ensures) (not-true _ (c .if2 .taken)))))
+returns-4 c =
+    let cut-line = c .before .before .before .before .before .before .before .before .before .before .before .before .before .cut-line in
+    let equals = c .before .before .before .before .before .before .before .before .before .before .before .equals in
+    let is-numbered = c .before .before .before .before .before .before .before .before .is-numbered in
+    let if1 = c .before .before .before .before .before .before .before .if1 in
+    let row-form = c .before .before .before .before .before .row-form in
+    sym (keyed-bad _ _ _ (know (cut-line .ensures) (equals .given .1)) (know (is-numbered .ensures) (not-false _ (if1 .left))) (value-outside _ _ _
+    (sym (row-form .ensures) ∙ ap formAs (c .before .before .before .row .given .1)) (know (c .before .in-range .ensures) (not-true _ (c .if2
+    .taken)))))
 
 add-t20 : tie.Need-add-t20
-add-t20 c = omega (arith, cut-known _ (c .before .before .before .before .before .before .before .before .before .before .before .before .before .before .cut-line .ensures) (c .before .before .before .before .before .before .before .before .before .before .before .before .equals .given .1))
+add-t20 c =
+    let cut-line = c .before .before .before .before .before .before .before .before .before .before .before .before .before .before .cut-line in
+    let equals = c .before .before .before .before .before .before .before .before .before .before .before .before .equals in
+    omega (arith, cut-known _ (cut-line .ensures) (equals .given .1))
 
 returns-5 : tie.Need-returns-5
 returns-5 c = let i = know (c .before .before .in-range .ensures) (not-false _ (c .before .if2 .left)) in

@@ -10,10 +10,23 @@ make-met-requires : tie.Need-make-met-requires
 make-met-requires c κs = c .before .before .before .check-own .ensures .1 (c .before .enum-told .given .1)
 
 returns : tie.Need-returns
-returns c = (let e = know (c .before .before .before .check-own .ensures .0) (c .before .own .given .1) in refused-makes _ (c .before .before .before .before .before .args .formula) (c .before .before .before .before .before .args .trace) (c .before .before .before .before .before .args .buf .now) (pair-fine (c .before .before .before .before .before .args .formula) (c .before .before .before .before .before .args .trace)) (rw e), λ e. c .before .before .before .check-own .ensures .1 (c .before .before .before .check-own .ensures .0 ∙ both-accept _ _ e .0))
+returns c =
+    let args = c .before .before .before .before .before .args in
+    let check-own = c .before .before .before .check-own in (
+      let e = know (check-own .ensures .0) (c .before .own .given .1) in refused-makes _ (args .formula) (args .trace) (args .buf .now) (pair-fine
+          (args .formula) (args .trace)) (rw e),
+      λ e. check-own .ensures .1 (check-own .ensures .0 ∙ both-accept _ _ e .0),
+    )
 
 returns-2 : tie.Need-returns-2
-returns-2 c = (met-makes (c .before .before .before .before .before .before .before .before .args .formula) (c .before .before .before .before .before .before .before .before .args .trace) (c .before .before .before .before .before .before .before .before .args .buf .now) (know (c .before .before .before .before .before .before .check-own .ensures .0) (c .before .before .before .before .enum-told .given .1)) (c .before .before .make-met .ensures), λ e. c .before .before .before .before .before .before .check-own .ensures .1 (c .before .before .before .before .before .before .check-own .ensures .0 ∙ both-accept _ _ e .0))
+returns-2 c =
+    let args = c .before .before .before .before .before .before .before .before .args in
+    let check-own = c .before .before .before .before .before .before .check-own in
+    let enum-told = c .before .before .before .before .enum-told in (
+      met-makes (args .formula) (args .trace) (args .buf .now) (know (check-own .ensures .0) (enum-told .given .1)) (c .before .before .make-met
+          .ensures),
+      λ e. check-own .ensures .1 (check-own .ensures .0 ∙ both-accept _ _ e .0),
+    )
 
 pub make-sheet-spec : {M : Type 1} → statement M
 make-sheet-spec =

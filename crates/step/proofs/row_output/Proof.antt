@@ -7,16 +7,28 @@ use Rattle.step.proofs.row_output.Statement.{statement}
 use Rattle.step.proofs.row_output.Tie as tie
 
 is-on-requires : tie.Need-is-on-requires
-is-on-requires c κs = subst (EachSignal (λ s. (1 ≤ s) × (s ≤ length (c .before .before .before .before .before .args .signals .now)))) (c .before .row2 .given .1) (c .before .before .before .before .before .pre .1)
+is-on-requires c κs =
+    let args = c .before .before .before .before .before .args in
+    let pre = c .before .before .before .before .before .pre in
+    subst (EachSignal (λ s. (1 ≤ s) × (s ≤ length (args .signals .now)))) (c .before .row2 .given .1) (pre .1)
 
 is-on-requires-2 : tie.Need-is-on-requires-2
-is-on-requires-2 c κs = subst (Each (λ a. (1 ≤ a) × (a ≤ length (c .before .before .before .before .before .args .activators .now)))) (c .before .row3 .given .1) (c .before .before .before .before .before .pre .0)
+is-on-requires-2 c κs =
+    let args = c .before .before .before .before .before .args in
+    let pre = c .before .before .before .before .before .pre in
+    subst (Each (λ a. (1 ≤ a) × (a ≤ length (args .activators .now)))) (c .before .row3 .given .1) (pre .0)
 
 is-on-requires-3 : tie.Need-is-on-requires-3
-is-on-requires-3 c κs = subst (Each (λ a. (1 ≤ a) × (a ≤ length (c .before .before .before .before .before .args .activators .now)))) (c .before .row4 .given .1) (c .before .before .before .before .before .pre .0) .0
+is-on-requires-3 c κs =
+    let args = c .before .before .before .before .before .args in
+    let pre = c .before .before .before .before .before .pre in
+    subst (Each (λ a. (1 ≤ a) × (a ≤ length (args .activators .now)))) (c .before .row4 .given .1) (pre .0) .0
 
 is-on-requires-4 : tie.Need-is-on-requires-4
-is-on-requires-4 c κs = subst (Each (λ a. (1 ≤ a) × (a ≤ length (c .before .before .before .before .before .before .args .activators .now)))) (c .before .before .row4 .given .1) (c .before .before .before .before .before .before .pre .0) .1
+is-on-requires-4 c κs =
+    let args = c .before .before .before .before .before .before .args in
+    let pre = c .before .before .before .before .before .before .pre in
+    subst (Each (λ a. (1 ≤ a) × (a ≤ length (args .activators .now)))) (c .before .before .row4 .given .1) (pre .0) .1
 
 returns : tie.Need-returns
 returns c = rw (c .before .before .row .given .1) (c .constant .ensures)

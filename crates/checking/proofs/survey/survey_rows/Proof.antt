@@ -38,28 +38,65 @@ array-copy-out-own : tie.Need-array-copy-out-own Inv-loop μ-loop
 array-copy-out-own c = omega (arith, c .before .before .before .before .before .before .pre .0 .most-rows)
 
 sub-t33 : tie.Need-sub-t33 Inv-loop μ-loop
-sub-t33 c = subst (EachSignal (λ s. (1 ≤ s) × (s ≤ 32))) (c .before .shape .given .1) (row-signals (c .before .before .before .before .before .before .before .before .before .before .args .t1) (c .before .before .before .before .before .before .before .before .before .before .pre .0) (c .before .before .before .before .before .before .loop .k) (search needs)) .0
+sub-t33 c =
+    let args = c .before .before .before .before .before .before .before .before .before .before .args in
+    let pre = c .before .before .before .before .before .before .before .before .before .before .pre in
+    let loop-state = c .before .before .before .before .before .before .loop in
+    subst (EachSignal (λ s. (1 ≤ s) × (s ≤ 32))) (c .before .shape .given .1) (row-signals (args .t1) (pre .0) (loop-state .k) (search needs)) .0
 
 array-copy-out-t37 : tie.Need-array-copy-out-t37 Inv-loop μ-loop
-array-copy-out-t37 c = let e = subst (EachSignal (λ s. (1 ≤ s) × (s ≤ 32))) (c .before .shape .given .1) (row-signals (c .before .before .before .before .before .before .before .before .before .before .args .t1) (c .before .before .before .before .before .before .before .before .before .before .pre .0) (c .before .before .before .before .before .before .loop .k) (search needs)) in omega (arith, e .0, e .1)
+array-copy-out-t37 c =
+    let args = c .before .before .before .before .before .before .before .before .before .before .args in
+    let pre = c .before .before .before .before .before .before .before .before .before .before .pre in
+    let loop-state = c .before .before .before .before .before .before .loop in
+    let e = subst (EachSignal (λ s. (1 ≤ s) × (s ≤ 32))) (c .before .shape .given .1) (row-signals (args .t1) (pre .0) (loop-state .k) (search
+    needs)) in omega (arith, e .0, e .1)
 
 sub-t39 : tie.Need-sub-t39 Inv-loop μ-loop
-sub-t39 c = subst (Each (λ a. (1 ≤ a) × (a ≤ 128))) (c .before .shape2 .given .1) (row-operands (c .before .before .before .before .before .before .before .before .before .before .args .t1) (c .before .before .before .before .before .before .before .before .before .before .pre .0) (c .before .before .before .before .before .before .loop .k) (search needs)) .0
+sub-t39 c =
+    let args = c .before .before .before .before .before .before .before .before .before .before .args in
+    let pre = c .before .before .before .before .before .before .before .before .before .before .pre in
+    let loop-state = c .before .before .before .before .before .before .loop in
+    subst (Each (λ a. (1 ≤ a) × (a ≤ 128))) (c .before .shape2 .given .1) (row-operands (args .t1) (pre .0) (loop-state .k) (search needs)) .0
 
 array-copy-out-t43 : tie.Need-array-copy-out-t43 Inv-loop μ-loop
-array-copy-out-t43 c = let e = subst (Each (λ a. (1 ≤ a) × (a ≤ 128))) (c .before .shape2 .given .1) (row-operands (c .before .before .before .before .before .before .before .before .before .before .args .t1) (c .before .before .before .before .before .before .before .before .before .before .pre .0) (c .before .before .before .before .before .before .loop .k) (search needs)) in omega (arith, e .0, e .1)
+array-copy-out-t43 c =
+    let args = c .before .before .before .before .before .before .before .before .before .before .args in
+    let pre = c .before .before .before .before .before .before .before .before .before .before .pre in
+    let loop-state = c .before .before .before .before .before .before .loop in
+    let e = subst (Each (λ a. (1 ≤ a) × (a ≤ 128))) (c .before .shape2 .given .1) (row-operands (args .t1) (pre .0) (loop-state .k) (search needs))
+    in omega (arith, e .0, e .1)
 
 sub-t45 : tie.Need-sub-t45 Inv-loop μ-loop
-sub-t45 c = subst (Each (λ a. (1 ≤ a) × (a ≤ 128))) (c .before .shape3 .given .1) (row-operands (c .before .before .before .before .before .before .before .before .before .before .args .t1) (c .before .before .before .before .before .before .before .before .before .before .pre .0) (c .before .before .before .before .before .before .loop .k) (search needs)) .0 .0
+sub-t45 c =
+    let args = c .before .before .before .before .before .before .before .before .before .before .args in
+    let pre = c .before .before .before .before .before .before .before .before .before .before .pre in
+    let loop-state = c .before .before .before .before .before .before .loop in
+    subst (Each (λ a. (1 ≤ a) × (a ≤ 128))) (c .before .shape3 .given .1) (row-operands (args .t1) (pre .0) (loop-state .k) (search needs)) .0 .0
 
 array-copy-out-t49 : tie.Need-array-copy-out-t49 Inv-loop μ-loop
-array-copy-out-t49 c = let e = subst (Each (λ a. (1 ≤ a) × (a ≤ 128))) (c .before .shape3 .given .1) (row-operands (c .before .before .before .before .before .before .before .before .before .before .args .t1) (c .before .before .before .before .before .before .before .before .before .before .pre .0) (c .before .before .before .before .before .before .loop .k) (search needs)) .0 in omega (arith, e .0, e .1)
+array-copy-out-t49 c =
+    let args = c .before .before .before .before .before .before .before .before .before .before .args in
+    let pre = c .before .before .before .before .before .before .before .before .before .before .pre in
+    let loop-state = c .before .before .before .before .before .before .loop in
+    let e = subst (Each (λ a. (1 ≤ a) × (a ≤ 128))) (c .before .shape3 .given .1) (row-operands (args .t1) (pre .0) (loop-state .k) (search needs))
+    .0 in omega (arith, e .0, e .1)
 
 sub-t51 : tie.Need-sub-t51 Inv-loop μ-loop
-sub-t51 c = subst (Each (λ a. (1 ≤ a) × (a ≤ 128))) (c .before .before .shape3 .given .1) (row-operands (c .before .before .before .before .before .before .before .before .before .before .before .args .t1) (c .before .before .before .before .before .before .before .before .before .before .before .pre .0) (c .before .before .before .before .before .before .before .loop .k) (search needs)) .1 .0
+sub-t51 c =
+    let args = c .before .before .before .before .before .before .before .before .before .before .before .args in
+    let pre = c .before .before .before .before .before .before .before .before .before .before .before .pre in
+    let loop-state = c .before .before .before .before .before .before .before .loop in
+    subst (Each (λ a. (1 ≤ a) × (a ≤ 128))) (c .before .before .shape3 .given .1) (row-operands (args .t1) (pre .0) (loop-state .k) (search needs))
+    .1 .0
 
 array-copy-out-t55 : tie.Need-array-copy-out-t55 Inv-loop μ-loop
-array-copy-out-t55 c = let e = subst (Each (λ a. (1 ≤ a) × (a ≤ 128))) (c .before .before .shape3 .given .1) (row-operands (c .before .before .before .before .before .before .before .before .before .before .before .args .t1) (c .before .before .before .before .before .before .before .before .before .before .before .pre .0) (c .before .before .before .before .before .before .before .loop .k) (search needs)) .1 in omega (arith, e .0, e .1)
+array-copy-out-t55 c =
+    let args = c .before .before .before .before .before .before .before .before .before .before .before .args in
+    let pre = c .before .before .before .before .before .before .before .before .before .before .before .pre in
+    let loop-state = c .before .before .before .before .before .before .before .loop in
+    let e = subst (Each (λ a. (1 ≤ a) × (a ≤ 128))) (c .before .before .shape3 .given .1) (row-operands (args .t1) (pre .0) (loop-state .k) (search
+    needs)) .1 in omega (arith, e .0, e .1)
 
 cast-note : tie.Need-cast-note Inv-loop μ-loop
 cast-note c = omega (arith, c .before .before .before .before .before .before .before .before .before .pre .0 .most-rows)
@@ -88,7 +125,11 @@ loop-again c = (
 )
 
 returns : tie.Need-returns Inv-loop μ-loop
-returns c = let e : (c .before .loop .k) ≡ (c .before .before .before .before .before .args .t1 .rows) = omega (arith, c .before .loop .inv .0) in subst (λ m. SurveyTo (c .before .before .before .before .before .args .t1) (c .before .before .before .before .before .args .trace) (c .before .before .before .before .before .args .sheet) (c .before .before .before .before .before .args .course) m (c .before .loop .survey)) e (c .before .loop .inv .1 (c .before .before .before .before .before .args .trace) (c .before .before .before .before .before .args .sheet) refl refl)
+returns c =
+    let args = c .before .before .before .before .before .args in
+    let loop-state = c .before .loop in
+    let e : (loop-state .k) ≡ (args .t1 .rows) = omega (arith, loop-state .inv .0) in subst (λ m. SurveyTo (args .t1) (args .trace) (args .sheet)
+    (args .course) m (loop-state .survey)) e (loop-state .inv .1 (args .trace) (args .sheet) refl refl)
 
 pub survey-rows-spec : {M : Type 1} → statement M
 survey-rows-spec =

@@ -32,34 +32,68 @@ element-copy-out-place : tie.Need-element-copy-out-place Inv-loop μ-loop
 element-copy-out-place c = omega (arith, c .before .before .before .pre .most-rows)
 
 shared-number-requires : tie.Need-shared-number-requires Inv-loop μ-loop
-shared-number-requires c κs = (slot-row-fits (c .before .before .before .before .before .before .before .before .args .t1) (c .before .before .before .before .before .before .before .before .pre) (c .before .before .before .before .before .before .before .loop .next) (omega arith), sym (c .before .before .is-not .ensures) ∙ c .before .if2 .taken)
+shared-number-requires c κs =
+    let args = c .before .before .before .before .before .before .before .before .args in
+    let pre = c .before .before .before .before .before .before .before .before .pre in
+    let loop-state = c .before .before .before .before .before .before .before .loop in
+    (slot-row-fits (args .t1) (pre) (loop-state .next) (omega arith), sym (c .before .before .is-not .ensures) ∙ c .before .if2 .taken)
 
 array-write-numbers : tie.Need-array-write-numbers Inv-loop μ-loop
 array-write-numbers c = omega (arith, c .before .before .before .before .before .before .before .before .before .pre .most-rows)
 
 loop-again : tie.Need-loop-again Inv-loop μ-loop
-loop-again c = list-shared (c .before .before .before .before .before .before .before .before .loop .inv) (omega arith) (omega (arith, c .before .before .before .before .before .before .before .before .before .pre .most-rows)) (c .before .before .before .before .before .before .if1 .taken) refl (c .before .before .before .before .sign-of .ensures) (slot-row-fits (c .before .before .before .before .before .before .before .before .before .args .t1) (c .before .before .before .before .before .before .before .before .before .pre) (c .before .before .before .before .before .before .before .before .loop .next) (omega arith)) (sym (c .before .before .before .is-not .ensures) ∙ c .before .before .if2 .taken) (c .shared-number .ensures)
+loop-again c =
+    let pre = c .before .before .before .before .before .before .before .before .before .pre in
+    let loop-state = c .before .before .before .before .before .before .before .before .loop in
+    let args = c .before .before .before .before .before .before .before .before .before .args in
+    let if1 = c .before .before .before .before .before .before .if1 in
+    let sign-of = c .before .before .before .before .sign-of in
+    list-shared (loop-state .inv) (omega arith) (omega (arith, pre .most-rows)) (if1 .taken) refl (sign-of .ensures) (slot-row-fits (args .t1) (pre)
+    (loop-state .next) (omega arith)) (sym (c .before .before .before .is-not .ensures) ∙ c .before .before .if2 .taken) (c .shared-number .ensures)
 
 own-row-requires : tie.Need-own-row-requires Inv-loop μ-loop
-own-row-requires c κs = slot-row-fits (c .before .before .before .before .before .before .before .before .args .t1) (c .before .before .before .before .before .before .before .before .pre) (c .before .before .before .before .before .before .before .loop .next) (omega arith)
+own-row-requires c κs =
+    let args = c .before .before .before .before .before .before .before .before .args in
+    let pre = c .before .before .before .before .before .before .before .before .pre in
+    let loop-state = c .before .before .before .before .before .before .before .loop in
+    slot-row-fits (args .t1) (pre) (loop-state .next) (omega arith)
 
 cast-n : tie.Need-cast-n Inv-loop μ-loop
-cast-n c = omega (arith, list-room (c .before .before .before .before .before .before .before .before .loop .inv), c .before .before .before .before .before .before .before .before .before .pre .most-rows)
+cast-n c =
+    let pre = c .before .before .before .before .before .before .before .before .before .pre in
+    let loop-state = c .before .before .before .before .before .before .before .before .loop in
+    omega (arith, list-room (loop-state .inv), pre .most-rows)
 
 mul-places : tie.Need-mul-places Inv-loop μ-loop
-mul-places c = omega (arith, list-room (c .before .before .before .before .before .before .before .before .loop .inv), c .before .before .before .before .before .before .before .before .before .pre .most-rows)
+mul-places c =
+    let pre = c .before .before .before .before .before .before .before .before .before .pre in
+    let loop-state = c .before .before .before .before .before .before .before .before .loop in
+    omega (arith, list-room (loop-state .inv), pre .most-rows)
 
 array-set-from-places : tie.Need-array-set-from-places Inv-loop μ-loop
-array-set-from-places c = omega (arith, list-room (c .before .before .before .before .before .before .before .before .loop .inv), c .before .before .before .before .before .before .before .before .before .pre .most-rows)
+array-set-from-places c =
+    let pre = c .before .before .before .before .before .before .before .before .before .pre in
+    let loop-state = c .before .before .before .before .before .before .before .before .loop in
+    omega (arith, list-room (loop-state .inv), pre .most-rows)
 
 add-rows : tie.Need-add-rows Inv-loop μ-loop
-add-rows c = omega (arith, list-room (c .before .before .before .before .before .before .before .before .loop .inv), c .before .before .before .before .before .before .before .before .before .pre .most-rows)
+add-rows c =
+    let pre = c .before .before .before .before .before .before .before .before .before .pre in
+    let loop-state = c .before .before .before .before .before .before .before .before .loop in
+    omega (arith, list-room (loop-state .inv), pre .most-rows)
 
 array-write-numbers-2 : tie.Need-array-write-numbers-2 Inv-loop μ-loop
 array-write-numbers-2 c = omega (arith, c .before .before .before .before .before .before .before .before .before .pre .most-rows)
 
 loop-again-2 : tie.Need-loop-again-2 Inv-loop μ-loop
-loop-again-2 c = list-own (c .before .before .before .before .before .before .before .before .loop .inv) (omega arith) (omega (arith, c .before .before .before .before .before .before .before .before .before .pre .most-rows)) (c .before .before .before .before .before .before .if1 .taken) refl (c .before .before .before .before .sign-of .ensures) (slot-row-fits (c .before .before .before .before .before .before .before .before .before .args .t1) (c .before .before .before .before .before .before .before .before .before .pre) (c .before .before .before .before .before .before .before .before .loop .next) (omega arith)) (sym (c .before .before .before .is-not .ensures) ∙ c .before .before .if2 .left) (c .own-row .ensures)
+loop-again-2 c =
+    let pre = c .before .before .before .before .before .before .before .before .before .pre in
+    let loop-state = c .before .before .before .before .before .before .before .before .loop in
+    let args = c .before .before .before .before .before .before .before .before .before .args in
+    let if1 = c .before .before .before .before .before .before .if1 in
+    let sign-of = c .before .before .before .before .sign-of in
+    list-own (loop-state .inv) (omega arith) (omega (arith, pre .most-rows)) (if1 .taken) refl (sign-of .ensures) (slot-row-fits (args .t1) (pre)
+    (loop-state .next) (omega arith)) (sym (c .before .before .before .is-not .ensures) ∙ c .before .before .if2 .left) (c .own-row .ensures)
 
 loop-again-3 : tie.Need-loop-again-3 Inv-loop μ-loop
 loop-again-3 c = list-free (c .before .before .loop .inv) (omega arith) (omega (arith, c .before .before .before .pre .most-rows)) (c .if1 .left)

@@ -10,7 +10,14 @@ slot-requires : tie.Need-slot-requires
 slot-requires c κs = subst (λ r. Below 65 r) (c .before .row3 .given .1) (c .before .before .before .pre) (c .before .row3 .given .0 .1 .0) refl .0
 
 element-copy-out-x : tie.Need-element-copy-out-x
-element-copy-out-x c = let b = subst (λ r. Below 65 r) (c .before .before .row3 .given .1) (c .before .before .before .before .pre) (c .before .before .row3 .given .0 .1 .0) refl in omega (arith, c .slot .ensures .1, b .1)
+element-copy-out-x c =
+    let row3 = c .before .before .row3 in
+    let b = subst (λ r. Below 65 r) (row3 .given .1) (c .before .before .before .before .pre) (row3 .given .0 .1 .0) refl in omega (
+      arith,
+      c .slot
+          .ensures .1,
+      b .1,
+    )
 
 slot-requires-2 : tie.Need-slot-requires-2
 slot-requires-2 c κs = subst (λ r. Below 65 r) (c .before .row4 .given .1) (c .before .before .before .pre) (c .before .row4 .given .0 .1 .0) (inl refl) .0
@@ -19,10 +26,16 @@ slot-requires-3 : tie.Need-slot-requires-3
 slot-requires-3 c κs = subst (λ r. Below 65 r) (c .before .before .row4 .given .1) (c .before .before .before .before .pre) (c .before .before .row4 .given .0 .1 .1 .0) (inr refl) .0
 
 element-copy-out-x-2 : tie.Need-element-copy-out-x-2
-element-copy-out-x-2 c = let b = subst (λ r. Below 65 r) (c .before .before .before .row4 .given .1) (c .before .before .before .before .before .pre) (c .before .before .before .row4 .given .0 .1 .0) (inl refl) in omega (arith, c .before .slot2 .ensures .1, b .1)
+element-copy-out-x-2 c =
+    let row4 = c .before .before .before .row4 in
+    let pre = c .before .before .before .before .before .pre in
+    let b = subst (λ r. Below 65 r) (row4 .given .1) (pre) (row4 .given .0 .1 .0) (inl refl) in omega (arith, c .before .slot2 .ensures .1, b .1)
 
 element-copy-out-y : tie.Need-element-copy-out-y
-element-copy-out-y c = let b = subst (λ r. Below 65 r) (c .before .before .before .before .row4 .given .1) (c .before .before .before .before .before .before .pre) (c .before .before .before .before .row4 .given .0 .1 .1 .0) (inr refl) in omega (arith, c .before .slot3 .ensures .1, b .1)
+element-copy-out-y c =
+    let row4 = c .before .before .before .before .row4 in
+    let pre = c .before .before .before .before .before .before .pre in
+    let b = subst (λ r. Below 65 r) (row4 .given .1) (pre) (row4 .given .0 .1 .1 .0) (inr refl) in omega (arith, c .before .slot3 .ensures .1, b .1)
 
 returns : tie.Need-returns
 returns c = rw (c .before .row .given .1)

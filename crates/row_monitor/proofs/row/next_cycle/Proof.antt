@@ -9,10 +9,18 @@ use Rattle.row_monitor.proofs.row.next_cycle.Statement.{statement}
 use Rattle.row_monitor.proofs.row.next_cycle.Tie as tie
 
 returns : tie.Need-returns
-returns c = add-one (c .before .before .args .c) ∙ sym (ap (λ b. pick b (suc (c .before .before .args .c)) (c .before .before .args .course .start)) (lt-ltb (suc (c .before .before .args .c)) (c .before .before .args .course .cycles) (omega (arith, c .if1 .taken))))
+returns c =
+    let args = c .before .before .args in
+    add-one (args .c) ∙ sym (ap (λ b. pick b (suc (args .c)) (args .course .start)) (lt-ltb (suc (args .c)) (args .course .cycles) (omega (
+      arith,
+      c
+          .if1 .taken,
+    ))))
 
 returns-2 : tie.Need-returns-2
-returns-2 c = sym (ap (λ b. pick b (suc (c .before .before .args .c)) (c .before .before .args .course .start)) (le-ltb (suc (c .before .before .args .c)) (c .before .before .args .course .cycles) (omega (arith, c .if1 .left))))
+returns-2 c =
+    let args = c .before .before .args in
+    sym (ap (λ b. pick b (suc (args .c)) (args .course .start)) (le-ltb (suc (args .c)) (args .course .cycles) (omega (arith, c .if1 .left))))
 
 pub next-cycle-spec : {M : Type 1} → statement M
 next-cycle-spec = tie.close (tie.spec (λ c. search needs) (λ c. search needs) returns returns-2)

@@ -2,14 +2,14 @@ use Prim.Native.Nat.{_+_, _*_}
 use mathlib.Core.Path.{refl}
 use mathlib.Core.Bool.{true, false, _&&_}
 use Rattle.tables.specs.Bit.{bitAt}
-use Rattle.row_monitor.specs.Word.{whenPending, dropped, held, failing, staying, wordRun}
+use Rattle.row_monitor.specs.Word.{whenPending, dropped, held, failing, staying, wordReport}
 use Rattle.row_monitor.proofs.WordLaws.{word-none, dropped-end, held-end, failing-word, staying-word}
 use borrow.Author.Needs.{needs}
 use Rattle.row_monitor.proofs.word.monitor_word.Statement.{statement}
 use Rattle.row_monitor.proofs.word.monitor_word.Tie as tie
 
 returns : tie.Need-returns
-unfolding wordRun
+unfolding wordReport
 returns c = let row = c .before .before .before .before .before .before .before .before .before .before .before .before .before .before .before .args .row in
     let f = bitAt (c .before .before .before .before .before .before .before .before .before .before .before .before .before .before .before .args .reads .first) in
     let g = bitAt (c .before .before .before .before .before .before .before .before .before .before .before .before .before .before .before .args .reads .second) in

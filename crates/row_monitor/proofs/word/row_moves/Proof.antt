@@ -10,7 +10,10 @@ returns-2 : tie.Need-returns-2
 returns-2 c = λ k f g p q. rw (c .before .before .before .before .row .given .1, c .before .enum-told2 .given .1) (moves-check (c .checks2 .ensures) (word-all k) (word-none 64 k) (word-none 64 k) (word-none 64 k))
 
 returns-3 : tie.Need-returns-3
-returns-3 c = λ k f g p q. rw (c .before .before .before .before .before .row2 .given .1, c .before .before .enum-told3 .given .1) (moves-check (c .checks3 .ensures) (c .before .negated .ensures k f p) (word-none 64 k) (word-none 64 k) (word-none 64 k))
+returns-3 c =
+    let row2 = c .before .before .before .before .before .row2 in
+    λ k f g p q. rw (row2 .given .1, c .before .before .enum-told3 .given .1) (moves-check (c .checks3 .ensures) (c .before .negated .ensures k f p)
+    (word-none 64 k) (word-none 64 k) (word-none 64 k))
 
 returns-4 : tie.Need-returns-4
 returns-4 c = λ k f g p q. rw (c .before .before .before .before .row2 .given .1, c .before .enum-told4 .given .1) (moves-check (c .checks4 .ensures) p (word-none 64 k) (word-none 64 k) (word-none 64 k))

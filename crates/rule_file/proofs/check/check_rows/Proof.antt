@@ -18,10 +18,21 @@ loop-holds : tie.Need-loop-holds Inv-loop μ-loop
 loop-holds c = check-start _ _ _ (c .before .before .before .pre) (sym (length-map (c .before .before .before .args .formula .places) _) ∙ c .before .before .before .good .0 .1 .1 .1 .1 .0 .1 .0 .1)
 
 returns : tie.Need-returns Inv-loop μ-loop
-returns c = (c .refuse .ensures ∙ (check-fails (c .before .before .before .before .before .before .before .loop .inv) (search needs) (c .before .before .before .before .first-number .ensures) (c .before .before .before .second-number .ensures) (search needs, search needs) (know (c .before .before .in-range .ensures) (not-true _ (c .before .if1 .taken))) ∙ check-whole _ _ _), λ q. let e = c .refuse .ensures in clash (cc))
+returns c =
+    let loop-state = c .before .before .before .before .before .before .before .loop in
+    let first-number = c .before .before .before .before .first-number in
+    let second-number = c .before .before .before .second-number in (
+      c .refuse .ensures ∙ (check-fails (loop-state .inv) (search needs) (first-number .ensures) (second-number .ensures) (search needs, search needs)
+          (know (c .before .before .in-range .ensures) (not-true _ (c .before .if1 .taken))) ∙ check-whole _ _ _),
+      λ q. let e = c .refuse .ensures in clash
+          (cc),
+    )
 
 loop-again : tie.Need-loop-again Inv-loop μ-loop
-loop-again c = check-passes (c .before .before .before .before .before .before .loop .inv) (search needs) (c .before .before .before .first-number .ensures) (c .before .before .second-number .ensures) (search needs, search needs) (know (c .before .in-range .ensures) (not-false _ (c .if1 .left)))
+loop-again c =
+    let loop-state = c .before .before .before .before .before .before .loop in
+    check-passes (loop-state .inv) (search needs) (c .before .before .before .first-number .ensures) (c .before .before .second-number .ensures)
+    (search needs, search needs) (know (c .before .in-range .ensures) (not-false _ (c .if1 .left)))
 
 returns-2 : tie.Need-returns-2 Inv-loop μ-loop
 returns-2 c = (check-end (c .before .loop .inv) (search needs) ∙ check-whole _ _ _, λ q. all-passed (c .before .loop .inv) (search needs))

@@ -20,7 +20,12 @@ loop-holds : tie.Need-loop-holds Inv-loop μ-loop
 loop-holds c = rows-start _ _ _
 
 returns : tie.Need-returns Inv-loop μ-loop
-returns c = c .refuse .ensures ∙ rw (c .before .row-reason .ensures ∙ ap reasonOf (c .before .before .enum-told .given .1)) (rows-refused (c .before .before .before .before .before .before .loop .inv) (search needs) (sym (c .before .before .before .before .row-line .ensures) ∙ ap rowLineAs (c .before .before .enum-told .given .1)))
+returns c =
+    let enum-told = c .before .before .enum-told in
+    let loop-state = c .before .before .before .before .before .before .loop in
+    let row-line = c .before .before .before .before .row-line in
+    c .refuse .ensures ∙ rw (c .before .row-reason .ensures ∙ ap reasonOf (enum-told .given .1)) (rows-refused (loop-state .inv) (search needs) (sym
+    (row-line .ensures) ∙ ap rowLineAs (enum-told .given .1)))
 
 array-set-from-places : tie.Need-array-set-from-places Inv-loop μ-loop
 array-set-from-places c = let e : length (c .before .before .before .before .before .loop .places) ≡ 64 = places-long (c .before .before .before .before .before .loop .inv) in omega arith
@@ -32,7 +37,11 @@ part-rest-start : tie.Need-part-rest-start Inv-loop μ-loop
 part-rest-start c = line-inside _ _ _ _ (sym (c .before .before .before .row-line .ensures) ∙ ap rowLineAs (c .before .line .given .1))
 
 loop-again : tie.Need-loop-again Inv-loop μ-loop
-loop-again c = rw rest-part (rows-more (c .before .before .before .before .before .before .loop .inv) (search needs) (c .before .before .before .before .before .before .before .before .pre .1) (sym (c .before .before .before .before .row-line .ensures) ∙ ap rowLineAs (c .before .before .line .given .1)))
+loop-again c =
+    let pre = c .before .before .before .before .before .before .before .before .pre in
+    let loop-state = c .before .before .before .before .before .before .loop in
+    let row-line = c .before .before .before .before .row-line in
+    rw rest-part (rows-more (loop-state .inv) (search needs) (pre .1) (sym (row-line .ensures) ∙ ap rowLineAs (c .before .before .line .given .1)))
 
 returns-2 : tie.Need-returns-2 Inv-loop μ-loop
 returns-2 c = c .refuse2 .ensures ∙ rows-surplus (c .before .before .before .loop .inv) (search needs) (λ z. omega arith)

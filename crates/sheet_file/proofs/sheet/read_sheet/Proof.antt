@@ -13,7 +13,17 @@ use Rattle.sheet_file.proofs.sheet.read_sheet.Tie as tie
 
 -- The ranges come first: a count that the code lets through beyond its range fails here.
 read-rows-requires : tie.Need-read-rows-requires
-read-rows-requires c κs = (omega (arith, counted _ _ _ _ _ (c .before .before .before .before .before .before .before .before .before .before .count-line2 .ensures) (c .before .before .before .before .before .before .before .before .second .given .1) .1), omega (arith, counted _ _ _ _ _ (c .before .before .before .before .count-line3 .ensures) (c .before .before .third .given .1) .1))
+read-rows-requires c κs =
+    let count-line2 = c .before .before .before .before .before .before .before .before .before .before .count-line2 in
+    let second = c .before .before .before .before .before .before .before .before .second in
+    let count-line3 = c .before .before .before .before .count-line3 in (
+      omega (arith, counted _ _ _ _ _ (count-line2 .ensures) (second .given .1) .1),
+      omega (
+        arith,
+        counted _ _ _ _ _ (count-line3 .ensures) (c .before
+            .before .third .given .1) .1,
+      ),
+    )
 
 returns : tie.Need-returns
 unfolding parseSheet
@@ -21,7 +31,16 @@ returns c = c .refuse .ensures ∙ rw (lt-ltb 65536 (length (c .before .before .
 
 returns-2 : tie.Need-returns-2
 unfolding parseSheet
-returns-2 c = c .refuse2 .ensures ∙ rw (le-ltb _ _ (c .before .before .before .before .before .before .if1 .left), counted-wrong (c .before .before .before .before .count-line .ensures) (c .before .before .enum-told .given .1), c .before .count-reason .ensures ∙ ap reasonOf (c .before .before .enum-told .given .1))
+returns-2 c =
+    let enum-told = c .before .before .enum-told in
+    let if1 = c .before .before .before .before .before .before .if1 in
+    let count-line = c .before .before .before .before .count-line in
+    c .refuse2 .ensures ∙ rw (
+      le-ltb _ _ (if1 .left),
+      counted-wrong (count-line .ensures) (enum-told .given .1),
+      c .before .count-reason .ensures ∙
+          ap reasonOf (enum-told .given .1),
+    )
 
 sub-after-format : tie.Need-sub-after-format
 sub-after-format c = counted _ _ _ _ _ (c .before .before .before .count-line .ensures) (c .before .first .given .1) .2
@@ -31,7 +50,19 @@ part-after-format-start c = counted _ _ _ _ _ (c .before .before .before .count-
 
 returns-3 : tie.Need-returns-3
 unfolding parseSheet
-returns-3 c = c .refuse3 .ensures ∙ rw (le-ltb _ _ (c .before .before .before .before .before .before .before .before .before .before .before .before .if1 .left), counted-is (c .before .before .before .before .before .before .before .before .before .before .count-line .ensures) (c .before .before .before .before .before .before .before .before .first .given .1), counted-wrong (rw rest-part at (c .before .before .before .before .count-line2 .ensures)) (c .before .before .enum-told2 .given .1), c .before .count-reason2 .ensures ∙ ap reasonOf (c .before .before .enum-told2 .given .1))
+returns-3 c =
+    let if1 = c .before .before .before .before .before .before .before .before .before .before .before .before .if1 in
+    let count-line = c .before .before .before .before .before .before .before .before .before .before .count-line in
+    let first = c .before .before .before .before .before .before .before .before .first in
+    let enum-told2 = c .before .before .enum-told2 in
+    let count-line2 = c .before .before .before .before .count-line2 in
+    c .refuse3 .ensures ∙ rw (
+      le-ltb _ _ (if1 .left),
+      counted-is (count-line .ensures) (first .given .1),
+      counted-wrong (rw rest-part at (count-line2
+          .ensures)) (enum-told2 .given .1),
+      c .before .count-reason2 .ensures ∙ ap reasonOf (enum-told2 .given .1),
+    )
 
 sub-after-rows : tie.Need-sub-after-rows
 sub-after-rows c = counted _ _ _ _ _ (c .before .before .before .count-line2 .ensures) (c .before .second .given .1) .2
@@ -41,7 +72,23 @@ part-after-rows-start c = counted _ _ _ _ _ (c .before .before .before .count-li
 
 returns-4 : tie.Need-returns-4
 unfolding parseSheet
-returns-4 c = c .refuse4 .ensures ∙ rw (le-ltb _ _ (c .before .before .before .before .before .before .before .before .before .before .before .before .before .before .before .before .before .before .if1 .left), counted-is (c .before .before .before .before .before .before .before .before .before .before .before .before .before .before .before .before .count-line .ensures) (c .before .before .before .before .before .before .before .before .before .before .before .before .before .before .first .given .1), counted-is (rw rest-part at (c .before .before .before .before .before .before .before .before .before .before .count-line2 .ensures)) (c .before .before .before .before .before .before .before .before .second .given .1), counted-wrong (rw (rest-part, rest-part) at (c .before .before .before .before .count-line3 .ensures)) (c .before .before .enum-told3 .given .1), c .before .count-reason3 .ensures ∙ ap reasonOf (c .before .before .enum-told3 .given .1))
+returns-4 c =
+    let if1 = c .before .before .before .before .before .before .before .before .before .before .before .before .before .before .before .before .before .before .if1 in
+    let count-line = c .before .before .before .before .before .before .before .before .before .before .before .before .before .before .before .before .count-line in
+    let first = c .before .before .before .before .before .before .before .before .before .before .before .before .before .before .first in
+    let count-line2 = c .before .before .before .before .before .before .before .before .before .before .count-line2 in
+    let second = c .before .before .before .before .before .before .before .before .second in
+    let enum-told3 = c .before .before .enum-told3 in
+    let count-line3 = c .before .before .before .before .count-line3 in
+    c .refuse4 .ensures ∙ rw (
+      le-ltb _ _ (if1 .left),
+      counted-is (count-line .ensures) (first .given .1),
+      counted-is (rw rest-part at (count-line2
+          .ensures)) (second .given .1),
+      counted-wrong (rw (rest-part, rest-part) at (count-line3 .ensures)) (enum-told3 .given .1),
+      c .before
+          .count-reason3 .ensures ∙ ap reasonOf (enum-told3 .given .1),
+    )
 
 sub-read-rows : tie.Need-sub-read-rows
 sub-read-rows c = counted _ _ _ _ _ (c .before .before .before .count-line3 .ensures) (c .before .third .given .1) .2
@@ -51,7 +98,20 @@ part-read-rows-start c = counted _ _ _ _ _ (c .before .before .before .count-lin
 
 returns-5 : tie.Need-returns-5
 unfolding parseSheet
-returns-5 c = rw (rest-part, rest-part, rest-part) at (c .read-rows .ensures) ∙ rw (le-ltb _ _ (c .before .before .before .before .before .before .before .before .before .before .before .before .before .before .before .before .before .before .before .if1 .left), counted-is (c .before .before .before .before .before .before .before .before .before .before .before .before .before .before .before .before .before .count-line .ensures) (c .before .before .before .before .before .before .before .before .before .before .before .before .before .before .before .first .given .1), counted-is (rw rest-part at (c .before .before .before .before .before .before .before .before .before .before .before .count-line2 .ensures)) (c .before .before .before .before .before .before .before .before .before .second .given .1), counted-is (rw (rest-part, rest-part) at (c .before .before .before .before .before .count-line3 .ensures)) (c .before .before .before .third .given .1))
+returns-5 c =
+    let if1 = c .before .before .before .before .before .before .before .before .before .before .before .before .before .before .before .before .before .before .before .if1 in
+    let count-line = c .before .before .before .before .before .before .before .before .before .before .before .before .before .before .before .before .before .count-line in
+    let first = c .before .before .before .before .before .before .before .before .before .before .before .before .before .before .before .first in
+    let count-line2 = c .before .before .before .before .before .before .before .before .before .before .before .count-line2 in
+    let second = c .before .before .before .before .before .before .before .before .before .second in
+    let count-line3 = c .before .before .before .before .before .count-line3 in
+    rw (rest-part, rest-part, rest-part) at (c .read-rows .ensures) ∙ rw (
+      le-ltb _ _ (if1 .left),
+      counted-is (count-line .ensures) (first .given .1),
+      counted-is (rw rest-part at (count-line2 .ensures)) (second .given .1),
+      counted-is (rw (rest-part, rest-part) at (count-line3 .ensures)) (c
+          .before .before .before .third .given .1),
+    )
 
 pub read-sheet-spec : {M : Type 1} → statement M
 read-sheet-spec =

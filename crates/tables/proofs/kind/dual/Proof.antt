@@ -10,7 +10,17 @@ kind-at-requires-2 c κs = rw (c .kind-at .ensures) (partner-below _ (c .before 
 
 returns : tie.Need-returns
 unfolding dualOf
-returns c = c .with-numbers .ensures ∙ rw (c .before .before .before .kind-at2 .ensures, c .before .before .before .before .kind-at .ensures, c .before .before .before .before .before .place-of .ensures .0, c .before .before .first-number .ensures, c .before .second-number .ensures)
+returns c =
+    let place-of = c .before .before .before .before .before .place-of in
+    let kind-at = c .before .before .before .before .kind-at in
+    c .with-numbers .ensures ∙ rw (
+      c .before .before .before .kind-at2 .ensures,
+      kind-at .ensures,
+      place-of .ensures .0,
+      c .before .before
+          .first-number .ensures,
+      c .before .second-number .ensures,
+    )
 
 pub dual-spec : {M : Type 1} → statement M
 dual-spec =

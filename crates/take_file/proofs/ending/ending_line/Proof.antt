@@ -16,7 +16,10 @@ slice-aggregate-same : tie.Need-slice-aggregate-same
 slice-aggregate-same c = simp length-take (omega (arith, cut-known _ (c .before .before .before .before .cut-line .ensures) (c .before .before .equals .given .1)))
 
 returns-2 : tie.Need-returns-2
-returns-2 c = sym (keyed-other _ _ _ (know (c .before .before .before .before .before .before .before .cut-line .ensures) (c .before .before .before .before .before .equals .given .1)) (know (c .before .same .ensures) (not-true _ (c .if1 .taken))))
+returns-2 c =
+    let cut-line = c .before .before .before .before .before .before .before .cut-line in
+    let equals = c .before .before .before .before .before .equals in
+    sym (keyed-other _ _ _ (know (cut-line .ensures) (equals .given .1)) (know (c .before .same .ensures) (not-true _ (c .if1 .taken))))
 
 add-value : tie.Need-add-value
 add-value c = omega (arith, cut-known _ (c .before .before .before .before .before .before .before .cut-line .ensures) (c .before .before .before .before .before .equals .given .1))
@@ -31,22 +34,58 @@ part-value-end : tie.Need-part-value-end
 part-value-end c = omega (arith, cut-known _ (c .before .before .before .before .before .before .before .cut-line .ensures) (c .before .before .before .before .before .equals .given .1))
 
 add-t26 : tie.Need-add-t26
-add-t26 c = omega (arith, cut-known _ (c .before .before .before .before .before .before .before .before .before .before .before .cut-line .ensures) (c .before .before .before .before .before .before .before .before .before .equals .given .1))
+add-t26 c =
+    let cut-line = c .before .before .before .before .before .before .before .before .before .before .before .cut-line in
+    let equals = c .before .before .before .before .before .before .before .before .before .equals in
+    omega (arith, cut-known _ (cut-line .ensures) (equals .given .1))
 
 returns-3 : tie.Need-returns-3
-returns-3 c = sym (keyed-good _ _ _ (know (c .before .before .before .before .before .before .before .before .before .before .before .cut-line .ensures) (c .before .before .before .before .before .before .before .before .before .equals .given .1)) (know (c .before .before .before .before .before .same .ensures) (not-false _ (c .before .before .before .before .if1 .left))) (ending-none _ _ (know (c .before .same2 .ensures) (c .if2 .taken))))
+returns-3 c =
+    let cut-line = c .before .before .before .before .before .before .before .before .before .before .before .cut-line in
+    let equals = c .before .before .before .before .before .before .before .before .before .equals in
+    let same = c .before .before .before .before .before .same in
+    sym (keyed-good _ _ _ (know (cut-line .ensures) (equals .given .1)) (know (same .ensures) (not-false _ (c .before .before .before .before .if1
+    .left))) (ending-none _ _ (know (c .before .same2 .ensures) (c .if2 .taken))))
 
 returns-4 : tie.Need-returns-4
-returns-4 c = sym (keyed-bad _ _ _ (know (c .before .before .before .before .before .before .before .before .before .before .before .before .before .before .cut-line .ensures) (c .before .before .before .before .before .before .before .before .before .before .before .before .equals .given .1)) (know (c .before .before .before .before .before .before .before .before .same .ensures) (not-false _ (c .before .before .before .before .before .before .before .if1 .left))) (ending-formless _ _ (know (c .before .before .before .before .same2 .ensures) (c .before .before .before .if2 .left)) (know (c .before .before .read-number .ensures) (c .enum-told2 .given .1))))
+returns-4 c =
+    let cut-line = c .before .before .before .before .before .before .before .before .before .before .before .before .before .before .cut-line in
+    let equals = c .before .before .before .before .before .before .before .before .before .before .before .before .equals in
+    let same = c .before .before .before .before .before .before .before .before .same in
+    let if1 = c .before .before .before .before .before .before .before .if1 in
+    let same2 = c .before .before .before .before .same2 in
+    sym (keyed-bad _ _ _ (know (cut-line .ensures) (equals .given .1)) (know (same .ensures) (not-false _ (if1 .left))) (ending-formless _ _ (know
+    (same2 .ensures) (c .before .before .before .if2 .left)) (know (c .before .before .read-number .ensures) (c .enum-told2 .given .1))))
 
 returns-5 : tie.Need-returns-5
-returns-5 c = sym (keyed-bad _ _ _ (know (c .before .before .before .before .before .before .before .before .before .before .before .before .before .before .before .before .cut-line .ensures) (c .before .before .before .before .before .before .before .before .before .before .before .before .before .before .equals .given .1)) (know (c .before .before .before .before .before .before .before .before .before .before .same .ensures) (not-false _ (c .before .before .before .before .before .before .before .before .before .if1 .left))) (ending-beyond _ _ (know (c .before .before .before .before .before .before .same2 .ensures) (c .before .before .before .before .before .if2 .left)) (know (c .before .before .before .before .read-number .ensures) (c .before .before .cycle .given .1)) (search needs)))
+returns-5 c =
+    let cut-line = c .before .before .before .before .before .before .before .before .before .before .before .before .before .before .before .before .cut-line in
+    let equals = c .before .before .before .before .before .before .before .before .before .before .before .before .before .before .equals in
+    let same = c .before .before .before .before .before .before .before .before .before .before .same in
+    let if1 = c .before .before .before .before .before .before .before .before .before .if1 in
+    let same2 = c .before .before .before .before .before .before .same2 in
+    let if2 = c .before .before .before .before .before .if2 in
+    let read-number = c .before .before .before .before .read-number in
+    sym (keyed-bad _ _ _ (know (cut-line .ensures) (equals .given .1)) (know (same .ensures) (not-false _ (if1 .left))) (ending-beyond _ _ (know
+    (same2 .ensures) (if2 .left)) (know (read-number .ensures) (c .before .before .cycle .given .1)) (search needs)))
 
 add-t18 : tie.Need-add-t18
-add-t18 c = omega (arith, cut-known _ (c .before .before .before .before .before .before .before .before .before .before .before .before .before .before .before .before .cut-line .ensures) (c .before .before .before .before .before .before .before .before .before .before .before .before .before .before .equals .given .1))
+add-t18 c =
+    let cut-line = c .before .before .before .before .before .before .before .before .before .before .before .before .before .before .before .before .cut-line in
+    let equals = c .before .before .before .before .before .before .before .before .before .before .before .before .before .before .equals in
+    omega (arith, cut-known _ (cut-line .ensures) (equals .given .1))
 
 returns-6 : tie.Need-returns-6
-returns-6 c = sym (keyed-good _ _ _ (know (c .before .before .before .before .before .before .before .before .before .before .before .before .before .before .before .before .cut-line .ensures) (c .before .before .before .before .before .before .before .before .before .before .before .before .before .before .equals .given .1)) (know (c .before .before .before .before .before .before .before .before .before .before .same .ensures) (not-false _ (c .before .before .before .before .before .before .before .before .before .if1 .left))) (ending-loop _ _ (know (c .before .before .before .before .before .before .same2 .ensures) (c .before .before .before .before .before .if2 .left)) (know (c .before .before .before .before .read-number .ensures) (c .before .before .cycle .given .1)) (search needs)))
+returns-6 c =
+    let cut-line = c .before .before .before .before .before .before .before .before .before .before .before .before .before .before .before .before .cut-line in
+    let equals = c .before .before .before .before .before .before .before .before .before .before .before .before .before .before .equals in
+    let same = c .before .before .before .before .before .before .before .before .before .before .same in
+    let if1 = c .before .before .before .before .before .before .before .before .before .if1 in
+    let same2 = c .before .before .before .before .before .before .same2 in
+    let if2 = c .before .before .before .before .before .if2 in
+    let read-number = c .before .before .before .before .read-number in
+    sym (keyed-good _ _ _ (know (cut-line .ensures) (equals .given .1)) (know (same .ensures) (not-false _ (if1 .left))) (ending-loop _ _ (know
+    (same2 .ensures) (if2 .left)) (know (read-number .ensures) (c .before .before .cycle .given .1)) (search needs)))
 
 pub ending-line-spec : {M : Type 1} → statement M
 ending-line-spec =

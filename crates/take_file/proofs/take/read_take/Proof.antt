@@ -18,7 +18,18 @@ ending-line-requires : tie.Need-ending-line-requires
 ending-line-requires c κs = omega (arith, counted _ _ _ _ _ (c .before .before .before .before .count-line3 .ensures) (c .before .before .third .given .1) .1)
 
 read-cycles-requires : tie.Need-read-cycles-requires
-read-cycles-requires c κs = (omega (arith, counted _ _ _ _ _ (c .before .before .before .before .before .before .before .before .before .before .before .before .before .before .before .count-line2 .ensures) (c .before .before .before .before .before .before .before .before .before .before .before .before .before .second .given .1) .1), omega (arith, counted _ _ _ _ _ (c .before .before .before .before .before .before .before .before .before .count-line3 .ensures) (c .before .before .before .before .before .before .before .third .given .1) .1))
+read-cycles-requires c κs =
+    let count-line2 = c .before .before .before .before .before .before .before .before .before .before .before .before .before .before .before .count-line2 in
+    let second = c .before .before .before .before .before .before .before .before .before .before .before .before .before .second in
+    let count-line3 = c .before .before .before .before .before .before .before .before .before .count-line3 in
+    let third = c .before .before .before .before .before .before .before .third in (
+      omega (arith, counted _ _ _ _ _ (count-line2 .ensures) (second .given .1) .1),
+      omega (
+        arith,
+        counted _ _ _ _ _ (count-line3 .ensures) (third
+            .given .1) .1,
+      ),
+    )
 
 returns : tie.Need-returns
 unfolding parseTake
@@ -26,7 +37,16 @@ returns c = c .refuse .ensures ∙ rw (lt-ltb 65536 (length (c .before .before .
 
 returns-2 : tie.Need-returns-2
 unfolding parseTake
-returns-2 c = c .refuse2 .ensures ∙ rw (le-ltb _ _ (c .before .before .before .before .before .before .if1 .left), counted-wrong (c .before .before .before .before .count-line .ensures) (c .before .before .enum-told .given .1), c .before .count-reason .ensures ∙ ap reasonOf (c .before .before .enum-told .given .1))
+returns-2 c =
+    let enum-told = c .before .before .enum-told in
+    let if1 = c .before .before .before .before .before .before .if1 in
+    let count-line = c .before .before .before .before .count-line in
+    c .refuse2 .ensures ∙ rw (
+      le-ltb _ _ (if1 .left),
+      counted-wrong (count-line .ensures) (enum-told .given .1),
+      c .before .count-reason .ensures ∙
+          ap reasonOf (enum-told .given .1),
+    )
 
 sub-after-format : tie.Need-sub-after-format
 sub-after-format c = counted _ _ _ _ _ (c .before .before .before .count-line .ensures) (c .before .first .given .1) .2
@@ -36,7 +56,19 @@ part-after-format-start c = counted _ _ _ _ _ (c .before .before .before .count-
 
 returns-3 : tie.Need-returns-3
 unfolding parseTake
-returns-3 c = c .refuse3 .ensures ∙ rw (le-ltb _ _ (c .before .before .before .before .before .before .before .before .before .before .before .before .if1 .left), counted-is (c .before .before .before .before .before .before .before .before .before .before .count-line .ensures) (c .before .before .before .before .before .before .before .before .first .given .1), counted-wrong (rw rest-part at (c .before .before .before .before .count-line2 .ensures)) (c .before .before .enum-told2 .given .1), c .before .count-reason2 .ensures ∙ ap reasonOf (c .before .before .enum-told2 .given .1))
+returns-3 c =
+    let if1 = c .before .before .before .before .before .before .before .before .before .before .before .before .if1 in
+    let count-line = c .before .before .before .before .before .before .before .before .before .before .count-line in
+    let first = c .before .before .before .before .before .before .before .before .first in
+    let enum-told2 = c .before .before .enum-told2 in
+    let count-line2 = c .before .before .before .before .count-line2 in
+    c .refuse3 .ensures ∙ rw (
+      le-ltb _ _ (if1 .left),
+      counted-is (count-line .ensures) (first .given .1),
+      counted-wrong (rw rest-part at (count-line2
+          .ensures)) (enum-told2 .given .1),
+      c .before .count-reason2 .ensures ∙ ap reasonOf (enum-told2 .given .1),
+    )
 
 sub-after-signals : tie.Need-sub-after-signals
 sub-after-signals c = counted _ _ _ _ _ (c .before .before .before .count-line2 .ensures) (c .before .second .given .1) .2
@@ -46,7 +78,23 @@ part-after-signals-start c = counted _ _ _ _ _ (c .before .before .before .count
 
 returns-4 : tie.Need-returns-4
 unfolding parseTake
-returns-4 c = c .refuse4 .ensures ∙ rw (le-ltb _ _ (c .before .before .before .before .before .before .before .before .before .before .before .before .before .before .before .before .before .before .if1 .left), counted-is (c .before .before .before .before .before .before .before .before .before .before .before .before .before .before .before .before .count-line .ensures) (c .before .before .before .before .before .before .before .before .before .before .before .before .before .before .first .given .1), counted-is (rw rest-part at (c .before .before .before .before .before .before .before .before .before .before .count-line2 .ensures)) (c .before .before .before .before .before .before .before .before .second .given .1), counted-wrong (rw (rest-part, rest-part) at (c .before .before .before .before .count-line3 .ensures)) (c .before .before .enum-told3 .given .1), c .before .count-reason3 .ensures ∙ ap reasonOf (c .before .before .enum-told3 .given .1))
+returns-4 c =
+    let if1 = c .before .before .before .before .before .before .before .before .before .before .before .before .before .before .before .before .before .before .if1 in
+    let count-line = c .before .before .before .before .before .before .before .before .before .before .before .before .before .before .before .before .count-line in
+    let first = c .before .before .before .before .before .before .before .before .before .before .before .before .before .before .first in
+    let count-line2 = c .before .before .before .before .before .before .before .before .before .before .count-line2 in
+    let second = c .before .before .before .before .before .before .before .before .second in
+    let enum-told3 = c .before .before .enum-told3 in
+    let count-line3 = c .before .before .before .before .count-line3 in
+    c .refuse4 .ensures ∙ rw (
+      le-ltb _ _ (if1 .left),
+      counted-is (count-line .ensures) (first .given .1),
+      counted-is (rw rest-part at (count-line2
+          .ensures)) (second .given .1),
+      counted-wrong (rw (rest-part, rest-part) at (count-line3 .ensures)) (enum-told3 .given .1),
+      c .before
+          .count-reason3 .ensures ∙ ap reasonOf (enum-told3 .given .1),
+    )
 
 sub-after-cycles : tie.Need-sub-after-cycles
 sub-after-cycles c = counted _ _ _ _ _ (c .before .before .before .count-line3 .ensures) (c .before .third .given .1) .2
@@ -56,7 +104,30 @@ part-after-cycles-start c = counted _ _ _ _ _ (c .before .before .before .count-
 
 returns-5 : tie.Need-returns-5
 unfolding parseTake
-returns-5 c = c .refuse5 .ensures ∙ rw (le-ltb _ _ (c .before .before .before .before .before .before .before .before .before .before .before .before .before .before .before .before .before .before .before .before .before .before .before .if1 .left), counted-is (c .before .before .before .before .before .before .before .before .before .before .before .before .before .before .before .before .before .before .before .before .before .count-line .ensures) (c .before .before .before .before .before .before .before .before .before .before .before .before .before .before .before .before .before .before .before .first .given .1), counted-is (rw rest-part at (c .before .before .before .before .before .before .before .before .before .before .before .before .before .before .before .count-line2 .ensures)) (c .before .before .before .before .before .before .before .before .before .before .before .before .before .second .given .1), counted-is (rw (rest-part, rest-part) at (c .before .before .before .before .before .before .before .before .before .count-line3 .ensures)) (c .before .before .before .before .before .before .before .third .given .1), ending-wrong (rw (rest-part, rest-part, rest-part) at (c .before .before .before .before .ending-line .ensures)) (c .before .before .enum-told4 .given .1), c .before .ending-reason .ensures ∙ ap endingReasonOf (c .before .before .enum-told4 .given .1))
+returns-5 c =
+    let if1 = c .before .before .before .before .before .before .before .before .before .before .before .before .before .before .before .before .before .before .before .before .before .before .before .if1 in
+    let count-line = c .before .before .before .before .before .before .before .before .before .before .before .before .before .before .before .before .before .before .before .before .before .count-line in
+    let first = c .before .before .before .before .before .before .before .before .before .before .before .before .before .before .before .before .before .before .before .first in
+    let count-line2 = c .before .before .before .before .before .before .before .before .before .before .before .before .before .before .before .count-line2 in
+    let second = c .before .before .before .before .before .before .before .before .before .before .before .before .before .second in
+    let count-line3 = c .before .before .before .before .before .before .before .before .before .count-line3 in
+    let third = c .before .before .before .before .before .before .before .third in
+    let enum-told4 = c .before .before .enum-told4 in
+    let ending-line = c .before .before .before .before .ending-line in
+    c .refuse5 .ensures ∙ rw (
+      le-ltb _ _ (if1 .left),
+      counted-is (count-line .ensures) (first .given .1),
+      counted-is (rw rest-part at (count-line2
+          .ensures)) (second .given .1),
+      counted-is (rw (rest-part, rest-part) at (count-line3 .ensures)) (third .given .1),
+      ending-wrong (rw (
+        rest-part,
+        rest-part,
+        rest-part,
+      ) at (ending-line .ensures)) (enum-told4 .given .1),
+      c .before .ending-reason .ensures ∙ ap endingReasonOf (enum-told4 .given
+          .1),
+    )
 
 sub-read-cycles : tie.Need-sub-read-cycles
 sub-read-cycles c = ending-inside _ _ (c .before .before .before .ending-line .ensures) (c .before .fourth .given .1)
@@ -66,7 +137,25 @@ part-read-cycles-start c = ending-inside _ _ (c .before .before .before .ending-
 
 returns-6 : tie.Need-returns-6
 unfolding parseTake
-returns-6 c = rw (rest-part, rest-part, rest-part, rest-part) at (c .read-cycles .ensures) ∙ rw (le-ltb _ _ (c .before .before .before .before .before .before .before .before .before .before .before .before .before .before .before .before .before .before .before .before .before .before .before .before .if1 .left), counted-is (c .before .before .before .before .before .before .before .before .before .before .before .before .before .before .before .before .before .before .before .before .before .before .count-line .ensures) (c .before .before .before .before .before .before .before .before .before .before .before .before .before .before .before .before .before .before .before .before .first .given .1), counted-is (rw rest-part at (c .before .before .before .before .before .before .before .before .before .before .before .before .before .before .before .before .count-line2 .ensures)) (c .before .before .before .before .before .before .before .before .before .before .before .before .before .before .second .given .1), counted-is (rw (rest-part, rest-part) at (c .before .before .before .before .before .before .before .before .before .before .count-line3 .ensures)) (c .before .before .before .before .before .before .before .before .third .given .1), ending-is (rw (rest-part, rest-part, rest-part) at (c .before .before .before .before .before .ending-line .ensures)) (c .before .before .before .fourth .given .1))
+returns-6 c =
+    let if1 = c .before .before .before .before .before .before .before .before .before .before .before .before .before .before .before .before .before .before .before .before .before .before .before .before .if1 in
+    let count-line = c .before .before .before .before .before .before .before .before .before .before .before .before .before .before .before .before .before .before .before .before .before .before .count-line in
+    let first = c .before .before .before .before .before .before .before .before .before .before .before .before .before .before .before .before .before .before .before .before .first in
+    let count-line2 = c .before .before .before .before .before .before .before .before .before .before .before .before .before .before .before .before .count-line2 in
+    let second = c .before .before .before .before .before .before .before .before .before .before .before .before .before .before .second in
+    let count-line3 = c .before .before .before .before .before .before .before .before .before .before .count-line3 in
+    let third = c .before .before .before .before .before .before .before .before .third in
+    let ending-line = c .before .before .before .before .before .ending-line in
+    rw (rest-part, rest-part, rest-part, rest-part) at (c .read-cycles .ensures) ∙ rw (
+      le-ltb _ _ (if1 .left),
+      counted-is (count-line .ensures)
+          (first .given .1),
+      counted-is (rw rest-part at (count-line2 .ensures)) (second .given .1),
+      counted-is (rw (rest-part, rest-part) at (count-line3
+          .ensures)) (third .given .1),
+      ending-is (rw (rest-part, rest-part, rest-part) at (ending-line .ensures)) (c .before .before .before .fourth
+          .given .1),
+    )
 
 pub read-take-spec : {M : Type 1} → statement M
 read-take-spec =

@@ -17,10 +17,16 @@ slice-aggregate-find : tie.Need-slice-aggregate-find
 slice-aggregate-find c = simp length-take (omega (arith, found _ _ 0 (c .before .before .before .before .find .ensures) (c .before .before .end .given .1) .below))
 
 returns-2 : tie.Need-returns-2
-returns-2 c = sym (cut-none _ (know (c .before .before .before .before .before .before .before .find .ensures) (c .before .before .before .before .before .end .given .1)) (know (c .before .before .find2 .ensures) (c .enum-told2 .given .1)))
+returns-2 c =
+    let find = c .before .before .before .before .before .before .before .find in
+    let end = c .before .before .before .before .before .end in
+    sym (cut-none _ (know (find .ensures) (end .given .1)) (know (c .before .before .find2 .ensures) (c .enum-told2 .given .1)))
 
 returns-3 : tie.Need-returns-3
-returns-3 c = sym (cut-both _ (know (c .before .before .before .before .before .before .before .before .find .ensures) (c .before .before .before .before .before .before .end .given .1)) (know (c .before .before .before .find2 .ensures) (c .before .equals .given .1)))
+returns-3 c =
+    let find = c .before .before .before .before .before .before .before .before .find in
+    let end = c .before .before .before .before .before .before .end in
+    sym (cut-both _ (know (find .ensures) (end .given .1)) (know (c .before .before .before .find2 .ensures) (c .before .equals .given .1)))
 
 pub cut-line-spec : {M : Type 1} → statement M
 cut-line-spec =

@@ -4,7 +4,11 @@ use Rattle.writing.proofs.line.put_text_line.Statement.{statement}
 use Rattle.writing.proofs.line.put_text_line.Tie as tie
 
 returns : tie.Need-returns
-returns c = wrote-both (c .before .before .before .before .before .before .before .before .before .before .before .before .before .before .put .ensures) (wrote-both (c .before .before .before .before .before .before .before .before .before .before .put-byte .ensures) (wrote-both (c .before .before .before .before .before .before .put2 .ensures) (c .before .before .put-byte2 .ensures)))
+returns c =
+    let put = c .before .before .before .before .before .before .before .before .before .before .before .before .before .before .put in
+    let put-byte = c .before .before .before .before .before .before .before .before .before .before .put-byte in
+    let put2 = c .before .before .before .before .before .before .put2 in
+    wrote-both (put .ensures) (wrote-both (put-byte .ensures) (wrote-both (put2 .ensures) (c .before .before .put-byte2 .ensures)))
 
 pub put-text-line-spec : {M : Type 1} → statement M
 put-text-line-spec =

@@ -18,16 +18,37 @@ loop-holds : tie.Need-loop-holds Inv-loop μ-loop
 loop-holds c = (omega arith, paste-zero (c .args .buf .now) (c .args .at) (c .args .text .now))
 
 slice-write-buf : tie.Need-slice-write-buf Inv-loop μ-loop
-slice-write-buf c = omega (arith, ap length (c .before .before .loop .inv .1), length-paste (c .before .before .before .args .buf .now) (c .before .before .before .args .at) (c .before .before .before .args .text .now) (c .before .before .loop .i) (omega arith) (omega arith))
+slice-write-buf c =
+    let args = c .before .before .before .args in
+    let loop-state = c .before .before .loop in
+    omega (
+      arith,
+      ap length (loop-state .inv .1),
+      length-paste (args .buf .now) (args .at) (args .text .now) (loop-state .i) (omega arith) (omega
+          arith),
+    )
 
 loop-again : tie.Need-loop-again Inv-loop μ-loop
-loop-again c = (omega arith, paste-more (c .before .before .before .args .buf .now) (c .before .before .before .args .at) (c .before .before .before .args .text .now) (c .before .before .before .pre) (c .before .before .loop .i) (c .before .before .loop .buf) (c .before .before .loop .inv .1) (omega arith))
+loop-again c =
+    let args = c .before .before .before .args in
+    let loop-state = c .before .before .loop in (
+      omega arith,
+      paste-more (args .buf .now) (args .at) (args .text .now) (c .before .before .before .pre) (loop-state .i) (loop-state .buf)
+          (loop-state .inv .1) (omega arith),
+    )
 
 same-length : tie.Need-same-length Inv-loop μ-loop
-same-length c = ap length (c .before .loop .inv .1) ∙ length-paste (c .before .before .args .buf .now) (c .before .before .args .at) (c .before .before .args .text .now) (c .before .loop .i) (omega arith) (omega arith)
+same-length c =
+    let args = c .before .before .args in
+    let loop-state = c .before .loop in
+    ap length (loop-state .inv .1) ∙ length-paste (args .buf .now) (args .at) (args .text .now) (loop-state .i) (omega arith) (omega arith)
 
 returns : tie.Need-returns Inv-loop μ-loop
-returns c = paste-end (c .before .before .args .buf .now) (c .before .before .args .at) (c .before .before .args .text .now) (c .before .before .pre) (c .before .loop .i) (c .before .loop .buf) (c .before .loop .inv .1) (omega arith)
+returns c =
+    let args = c .before .before .args in
+    let loop-state = c .before .loop in
+    paste-end (args .buf .now) (args .at) (args .text .now) (c .before .before .pre) (loop-state .i) (loop-state .buf) (loop-state .inv .1) (omega
+    arith)
 
 pub put-spec : {M : Type 1} → statement M
 put-spec =

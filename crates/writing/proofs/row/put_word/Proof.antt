@@ -14,13 +14,27 @@ array-share-prefix-bytes : tie.Need-array-share-prefix-bytes
 array-share-prefix-bytes c = rw (c .before .before .kind-at .ensures) (word-fits _ (c .before .before .before .before .pre .0))
 
 slice-aggregate-put : tie.Need-slice-aggregate-put
-slice-aggregate-put c = let h : c .before .before .before .kind-at .result .length ≤ length (c .before .before .before .kind-at .result .word) = rw (c .before .before .before .kind-at .ensures) (word-fits _ (c .before .before .before .before .before .pre .0)) in sym (length-take-le _ _ h)
+slice-aggregate-put c =
+    let kind-at = c .before .before .before .kind-at in
+    let pre = c .before .before .before .before .before .pre in
+    let h : kind-at .result .length ≤ length (kind-at .result .word) = rw (kind-at .ensures) (word-fits _ (pre .0)) in sym (length-take-le _ _ h)
 
 put-requires : tie.Need-put-requires
-put-requires c κs = let h : length (wordOf (c .before .before .before .kind-at .result)) ≤ 8 = rw (c .before .before .before .kind-at .ensures) (word-short _ (c .before .before .before .before .before .pre .0)) in omega (arith, c .before .before .before .before .before .pre .1)
+put-requires c κs =
+    let pre = c .before .before .before .before .before .pre in
+    let kind-at = c .before .before .before .kind-at in
+    let h : length (wordOf (kind-at .result)) ≤ 8 = rw (kind-at .ensures) (word-short _ (pre .0)) in omega (arith, pre .1)
 
 returns : tie.Need-returns
-returns c = let h : length (wordOf (c .before .before .before .before .before .before .kind-at .result)) ≤ 8 = rw (c .before .before .before .before .before .before .kind-at .ensures) (word-short _ (c .before .before .before .before .before .before .before .before .pre .0)) in (wrote-is (ap wordOf (c .before .before .before .before .before .before .kind-at .ensures)) (c .before .before .put .ensures), omega (arith, c .before .before .put .ensures .next))
+returns c =
+    let kind-at = c .before .before .before .before .before .before .kind-at in
+    let pre = c .before .before .before .before .before .before .before .before .pre in
+    let put = c .before .before .put in
+    let h : length (wordOf (kind-at .result)) ≤ 8 = rw (kind-at .ensures) (word-short _ (pre .0)) in (
+      wrote-is (ap wordOf (kind-at .ensures)) (put
+          .ensures),
+      omega (arith, put .ensures .next),
+    )
 
 pub put-word-spec : {M : Type 1} → statement M
 put-word-spec =
