@@ -1,4 +1,4 @@
--- 01, "Why a file is turned back": the number of each reason, and checks that refuse. Assumes nothing.
+-- 01, "Why a file is turned back", and 02: the number of each reason, and checks that refuse. Assumes nothing.
 use Prim.Native.Nat.{ℕ}
 use lib.Dec.{eqb}
 use Rattle.tables.specs.Choice.{pick}
@@ -6,9 +6,9 @@ use Rattle.tables.specs.declared.refusal.Reason.{Reason}
 use Rattle.tables.specs.declared.refusal.Refusal.{Refusal}
 use Rattle.tables.specs.declared.refusal.Outcome.{Outcome}
 use Rattle.tables.specs.declared.refusal.Outcome.the-variants.{Accepted, Refused}
-use Rattle.tables.specs.declared.refusal.Reason.the-variants.{TooLong, WrongForm, WrongFormat, CountOutOfRange, BadReference, BadLoop, SignalsDiffer, WrongEnding, SizeDiffers, ShortBuffer}
+use Rattle.tables.specs.declared.refusal.Reason.the-variants.{TooLong, WrongForm, WrongFormat, CountOutOfRange, BadReference, BadLoop, SignalsDiffer, WrongEnding, SizeDiffers, ShortBuffer, TooManyCycles}
 
--- the list's numbers
+-- the list's numbers; 02 goes on: "A cycle beyond the 256th is turned away with 11"
 abbrev pub number : Reason → ℕ
 number TooLong = 1
 number WrongForm = 2
@@ -20,8 +20,9 @@ number SignalsDiffer = 7
 number WrongEnding = 8
 number SizeDiffers = 9
 number ShortBuffer = 10
+number TooManyCycles = 11
 
--- the reason that the list gives this number, 1 to 10: the definitions of what a service answers name their refusals by it
+-- the reason that the list gives this number, 1 to 11: the definitions of what a service answers name their refusals by it
 abbrev pub numbered : ℕ → Reason
 numbered n =
     pick (eqb n (number TooLong)) TooLong
@@ -32,7 +33,8 @@ numbered n =
     (pick (eqb n (number BadLoop)) BadLoop
     (pick (eqb n (number SignalsDiffer)) SignalsDiffer
     (pick (eqb n (number WrongEnding)) WrongEnding
-    (pick (eqb n (number SizeDiffers)) SizeDiffers ShortBuffer))))))))
+    (pick (eqb n (number SizeDiffers)) SizeDiffers
+    (pick (eqb n (number ShortBuffer)) ShortBuffer TooManyCycles)))))))))
 
 -- the first of two checks that refuses
 abbrev pub andThen : Outcome → Outcome → Outcome

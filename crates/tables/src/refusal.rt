@@ -1,4 +1,4 @@
-// Why a file or a call is turned back (01: "Why a file is turned back").
+// Why a file or a call is turned back (01: "Why a file is turned back"; 02 goes on with 11).
 ghost use mathlib.Core.Path.{_≡_};
 ghost use Rattle.tables.specs.Refusal.{andThen, callRefused, number};
 
@@ -13,6 +13,7 @@ pub enum Reason {
     WrongEnding,
     SizeDiffers,
     ShortBuffer,
+    TooManyCycles,
 }
 
 // A refusal: its reason, the file (1 rule, 2 take, 3 sheet, 0 none) and the line from 1 (0 none).
@@ -27,7 +28,7 @@ pub enum Outcome {
     Refused(Refusal),
 }
 
-// The number of a reason in 01's list.
+// The number of a reason in the list.
 pub fn reason_number(reason: Reason) -> u8
     ensures answer { λ r. ⌜ r ≡ number reason ⌝ }
 {
@@ -42,6 +43,7 @@ pub fn reason_number(reason: Reason) -> u8
         Reason::WrongEnding => 8,
         Reason::SizeDiffers => 9,
         Reason::ShortBuffer => 10,
+        Reason::TooManyCycles => 11,
     }
 }
 
