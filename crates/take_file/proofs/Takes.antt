@@ -77,7 +77,7 @@ cycle-of signals cs k h l e =
     ∙ (tabulate-ext signals (λ s. bitAt (laneOf (λ c. digit cs c s)) k) (λ s. digit cs k s) (λ s m. bit-of-lane (λ c. digit cs c s) k l)
     ∙ tabulate-getD (getD cs k []) signals false e))
 
-cycles-of : (signals cycles : ℕ) (ending : Ending) (cs : List (List Bool)) → signals ≤ 32 → cycles ≤ 256 → length cs ≡ cycles
+pub cycles-of : (signals cycles : ℕ) (ending : Ending) (cs : List (List Bool)) → signals ≤ 32 → cycles ≤ 256 → length cs ≡ cycles
     → ((k : ℕ) → k < length cs → length (getD cs k []) ≡ signals) → cyclesOf (traceOf signals cycles ending cs) ≡ cs
 cycles-of signals cycles ending cs h l e each =
     let m : min cycles 256 ≡ cycles = omega arith in

@@ -97,12 +97,12 @@ digit-written : (b : Bool) → (48 ≤ pick b 49 48) × (pick b 49 48 ≤ 49) ×
 digit-written true = (omega arith, omega arith, refl)
 digit-written false = (omega arith, omega arith, refl)
 
-are-written : (ds : List Bool) → areDigits (digitsText ds) ≡ true
+pub are-written : (ds : List Bool) → areDigits (digitsText ds) ≡ true
 unfolding areDigits
 are-written [] = refl
 are-written (d ∷ ds) = let w = digit-written d in rw (le-ltb (pick d 49 48) 48 (w .0), le-ltb 49 (pick d 49 48) (w .1)) (are-written ds)
 
-in-written : (ds : List Bool) → digitsIn (digitsText ds) ≡ ds
+pub in-written : (ds : List Bool) → digitsIn (digitsText ds) ≡ ds
 in-written [] = refl
 in-written (d ∷ ds) = ap₂ _∷_ (digit-written d .2) (in-written ds)
 
