@@ -1,5 +1,5 @@
 -- A recording: what is held of the cycles so far. Assumes nothing.
-use Prim.Native.Nat.{ℕ, _+_, _*_, _/_, _%_}
+use Prim.Native.Nat.{ℕ, _+_, _*_, _/_, _%_, _<_}
 use mathlib.Core.Bool.{Bool, false}
 use mathlib.Core.List.{List, [], _∷_}
 use mathlib.Core.Path.{_≡_}
@@ -24,6 +24,13 @@ wordsOf cycles = tabulate 128 (λ i. wordFrom 64 (i / 32 * 64) (λ c. digit cycl
 pub record Recorded (words : List ℕ) (count : ℕ) : Type 0 where
   pub cycles : List (List Bool)
   pub number : length cycles ≡ count
+  pub held : words ≡ wordsOf cycles
+
+-- the words of so many cycles of so many signals each
+pub record RecordedOf (words : List ℕ) (signals count : ℕ) : Type 0 where
+  pub cycles : List (List Bool)
+  pub number : length cycles ≡ count
+  pub widths : (c : ℕ) → c < count → length (getD cycles c []) ≡ signals
   pub held : words ≡ wordsOf cycles
 
 -- the lane of each signal, from its four words

@@ -10,6 +10,8 @@ ghost use Rattle.text.specs.Digits.{digitsIn};
 ghost use Rattle.recording.specs.Recording.{Recorded, lanesFrom, wordsOf};
 use tables::trace::Lane;
 
+pub mod whole;
+
 // The words of no cycle.
 pub fn empty() -> [u64; 128]
     ensures none { λ r. ⌜ r ≡ wordsOf [] ⌝ }
