@@ -18,6 +18,7 @@ use Rattle.text.specs.Digits.{DigitsWithin, areDigits, digitsIn, digitsF
 use Rattle.text.specs.declared.digits.Digits.{Digits}
 use Rattle.text.specs.declared.digits.Digits.the-variants.{At, Wrong}
 use Rattle.text.specs.Written.{digitsText}
+use Rattle.text.proofs.Laws.{are-written, digit-written, in-written}
 use Rattle.text.specs.Result.{Parsed}
 use Rattle.text.specs.Result.Parsed.{good, bad}
 use Rattle.tables.proofs.Choices.{clash, each-pick}
@@ -93,19 +94,6 @@ module _ (n : ℕ) (v : List ℕ) where
     form-digits d = rw (eq-eqb (length v) n e, d)
 
 -- ---- the written form
-digit-written : (b : Bool) → (48 ≤ pick b 49 48) × (pick b 49 48 ≤ 49) × (eqb (pick b 49 48) 49 ≡ b)
-digit-written true = (omega arith, omega arith, refl)
-digit-written false = (omega arith, omega arith, refl)
-
-pub are-written : (ds : List Bool) → areDigits (digitsText ds) ≡ true
-unfolding areDigits
-are-written [] = refl
-are-written (d ∷ ds) = let w = digit-written d in rw (le-ltb (pick d 49 48) 48 (w .0), le-ltb 49 (pick d 49 48) (w .1)) (are-written ds)
-
-pub in-written : (ds : List Bool) → digitsIn (digitsText ds) ≡ ds
-in-written [] = refl
-in-written (d ∷ ds) = ap₂ _∷_ (digit-written d .2) (in-written ds)
-
 pub digits-written : (n : ℕ) (ds : List Bool) → length ds ≡ n → digitsForm n (digitsText ds) ≡ good ds
 unfolding digitsForm
 digits-written n ds e = rw (eq-eqb (length (digitsText ds)) n (length-map ds (λ b. pick b 49 48) ∙ e), are-written ds, in-written ds)

@@ -1,17 +1,19 @@
--- What crates above cite of texts: the numbered lines of a file, element by element, the digits of a written number, and how long written
--- things are. Assumes nothing.
-use mathlib.Core.Path.{_≡_, refl}
-use mathlib.Core.Bool.{Bool}
+-- What crates above cite of texts: the numbered lines of a file, element by element, the digits of a written number, how long written
+-- things are, and that written digits are read back. Assumes nothing.
+use mathlib.Core.Path.{_≡_, refl, ap₂}
+use mathlib.Core.Bool.{Bool, true, false}
 use mathlib.Core.List.{List, [], _∷_, _++_}
 use Prim.Native.Nat.{ℕ, zero, suc, _+_, _*_, _/_, _%_, _≤_, _<_}
 use native.Mathlib.Nat.{add-zero, suc-mul}
 use native.Mathlib.Omega.{arith}
 use native.Mathlib.Decide.{decLt}
+use lib.Dec.{eqb}
 use lib.ListN.{length, getD, length-append, length-map}
 use borrow.Author.Tests.{lt-ltb, le-ltb}
 use Rattle.tables.specs.Choice.{pick}
 use Rattle.text.specs.Written.{decimalIn, decimal, digitsText, writtenLine, writtenBody}
 use Rattle.text.specs.Body.{EachAt}
+use Rattle.text.specs.Digits.{areDigits, digitsIn}
 
 module _ {A : Type 0} (Ok : ℕ → A → Type 0) (d : A) where
   pub all-ok : (xs : List A) (k : ℕ) → ((i : ℕ) → i < length xs → Ok (k + i) (getD xs i d)) → EachAt Ok k xs
@@ -77,3 +79,17 @@ body-short letter text d most (x ∷ xs) k h =
 
 pub text-length : (ds : List Bool) → length (digitsText ds) ≡ length ds
 text-length ds = length-map {B = ℕ} ds (λ b. pick b 49 48)
+
+-- digits that are written are digits, and say what they were written from
+pub digit-written : (b : Bool) → (48 ≤ pick b 49 48) × (pick b 49 48 ≤ 49) × (eqb (pick b 49 48) 49 ≡ b)
+digit-written true = (omega arith, omega arith, refl)
+digit-written false = (omega arith, omega arith, refl)
+
+pub are-written : (ds : List Bool) → areDigits (digitsText ds) ≡ true
+unfolding areDigits
+are-written [] = refl
+are-written (d ∷ ds) = let w = digit-written d in rw (le-ltb (pick d 49 48) 48 (w .0), le-ltb 49 (pick d 49 48) (w .1)) (are-written ds)
+
+pub in-written : (ds : List Bool) → digitsIn (digitsText ds) ≡ ds
+in-written [] = refl
+in-written (d ∷ ds) = ap₂ _∷_ (digit-written d .2) (in-written ds)

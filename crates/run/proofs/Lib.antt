@@ -1,0 +1,4 @@
+pub mod Led
+pub mod TakeFile
+pub mod Services
+pub mod Calls

@@ -1,0 +1,4 @@
+pub mod Cycles
+pub mod Run
+pub mod Verdict
+pub mod Calls
