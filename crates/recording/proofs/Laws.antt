@@ -1,14 +1,14 @@
 -- What crates above cite of recordings. Assumes nothing.
-use Prim.Native.Nat.{ℕ, _≤_, _<_}
+use Prim.Native.Nat.{ℕ, _*_, _/_, _%_, _^_, _≤_, _<_}
 use mathlib.Core.Path.{_≡_, refl, ap, _∙_}
 use mathlib.Core.Bool.{Bool, false}
 use mathlib.Core.List.{List, [], _∷_, _++_}
 use lib.ListN.{getD, length, replicate, List·getD-eq-default}
 use lib.Seq.{getD-append-seam}
-use Rattle.tables.specs.Bit.{bitAt, laneOf}
+use Rattle.tables.specs.Bit.{bitAt, laneOf, wordFrom}
 use Rattle.tables.specs.declared.trace.Lane.{Lane}
-use Rattle.tables.proofs.Bits.{bit-of-lane}
-use Rattle.tables.proofs.Places.{getD-tabulate, snoc-other}
+use Rattle.tables.proofs.Bits.{bit-of-lane, word-below}
+use Rattle.tables.proofs.Places.{getD-tabulate, length-tabulate, snoc-other}
 use Rattle.recording.specs.Recording.{digit, lanesOf, wordsOf, Recorded, lanesFrom}
 use Rattle.recording.proofs.Words.{lanes-of-words, lanes-none}
 
@@ -19,6 +19,19 @@ recorded-none e = record { cycles = []; number = refl; held = e }
 -- THE LANES OF WHAT WAS RECORDED ARE THOSE OF ITS CYCLES
 pub lanes-recorded : {words : List ℕ} (cs : List (List Bool)) → words ≡ wordsOf cs → lanesFrom words ≡ lanesOf cs
 lanes-recorded cs e = ap lanesFrom e ∙ lanes-of-words cs
+
+-- the words of any cycles fit their places
+module _ (cs : List (List Bool)) where
+  abbrev wordAt : ℕ → ℕ
+  wordAt i = wordFrom 64 (i / 32 * 64) (λ c. digit cs c (i % 32))
+
+  pub words-length : length (wordsOf cs) ≡ 128
+  unfolding wordsOf
+  words-length = length-tabulate 128 0 wordAt
+
+  pub words-below : (i : ℕ) → i < 128 → getD (wordsOf cs) i 0 < 2 ^ 64
+  unfolding wordsOf
+  words-below i h = rw (getD-tabulate 128 wordAt i 0 h) (word-below 64 (i / 32 * 64) (λ c. digit cs c (i % 32)))
 
 -- and so many zeros are the lanes of no cycle
 pub lanes-empty : lanesOf [] ≡ replicate 32 (record { words = replicate 4 0 })

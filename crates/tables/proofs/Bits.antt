@@ -16,7 +16,7 @@ pub digit : (b : Bool) → pick b 1 0 < 2
 digit true = omega arith
 digit false = omega arith
 
-word-below : (n k : ℕ) (f : ℕ → Bool) → wordFrom n k f < 2 ^ n
+pub word-below : (n k : ℕ) (f : ℕ → Bool) → wordFrom n k f < 2 ^ n
 unfolding wordFrom
 word-below zero k f = omega arith
 word-below (suc n) k f = rw pow-suc (omega (arith, word-below n (suc k) f, digit (f k)))
