@@ -1,17 +1,17 @@
 -- A word and a row from their bytes. Assumes nothing.
 use mathlib.Core.Path.{_≡_, refl, sym, ap, _∙_}
 use mathlib.Core.List.{List}
-use Prim.Native.Nat.{ℕ, suc, _+_, _*_, _/_, _%_, _^_, _≤_, _<_}
+use Prim.Native.Nat.{ℕ, _+_, _*_, _/_, _%_, _^_, _<_}
 use native.Mathlib.Nat.{div-div-eq-div-mul}
 use native.Mathlib.Omega.{arith}
-use lib.ListN.{length, getD}
+use lib.ListN.{getD}
 use Rattle.tables.specs.Kind.{kinds, kindCount, noKind, kindAt, placeOf, firstNumber, secondNumber, withNumbers}
 use Rattle.tables.specs.declared.kind.Kind.{Kind}
 use Rattle.tables.specs.declared.row.Row.{Row}
 use Rattle.tables.specs.declared.row.RowPlace.{RowPlace}
 use Rattle.tables.specs.declared.run.Run.{Run}
 use Rattle.tables.proofs.KindTable.{kind-of-row, numbers-again, numbers-own}
-use Rattle.run_bytes.specs.Bytes.{Fits, byteOf, runBytes, runLength, wordByte, rowByte, rowOf, tailByte}
+use Rattle.run_bytes.specs.Bytes.{runBytes, wordByte, rowByte, rowOf, tailByte}
 use Rattle.run_bytes.proofs.Positions.{byte-at, byte-word, byte-row, byte-tail}
 
 -- a word is the sum of its bytes

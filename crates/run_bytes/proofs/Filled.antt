@@ -1,16 +1,15 @@
 -- Places filled one after the other. Assumes nothing.
-use mathlib.Core.Path.{_≡_, refl, sym, ap, _∙_}
+use mathlib.Core.Path.{_≡_, sym, ap, _∙_}
 use mathlib.Core.List.{List}
-use Prim.Native.Nat.{ℕ, suc, _+_, _≤_, _<_}
-use native.Mathlib.Nat.{add-zero}
+use Prim.Native.Nat.{ℕ, suc, _+_, _<_}
 use native.Mathlib.Omega.{arith}
 use native.Mathlib.Decide.{decLt}
 use lib.Dec.{ltb}
-use lib.ListN.{length, set, replicate}
+use lib.ListN.{length, getD, set, replicate}
 use borrow.Author.Tests.{lt-ltb, le-ltb}
 use Rattle.tables.specs.Choice.{pick}
 use Rattle.tables.specs.Place.{tabulate}
-use Rattle.tables.proofs.Places.{length-tabulate, tabulate-ext, set-tabulate, replicate-tabulate}
+use Rattle.tables.proofs.Places.{tabulate-ext, tabulate-getD, set-tabulate, replicate-tabulate}
 use Rattle.run_bytes.specs.Bytes.{filled}
 
 module _ {A : Type 0} (n : ℕ) (d : A) (f : ℕ → A) where
@@ -26,10 +25,6 @@ module _ {A : Type 0} (n : ℕ) (d : A) (f : ℕ → A) where
   pub fill-end : filled n d f n ≡ tabulate n f
   unfolding filled
   fill-end = tabulate-ext n (λ i. pick (ltb i n) (f i) d) f (λ i h. rw (lt-ltb i n h))
-
-  pub fill-length : (m : ℕ) → length (filled n d f m) ≡ n
-  unfolding filled
-  fill-length m = length-tabulate n 0 (λ i. pick (ltb i m) (f i) d)
 
   -- the next place
   pub fill-place : {bs : List A} {x : A} (m : ℕ) → bs ≡ filled n d f m → m < n → x ≡ f m → set bs m x ≡ filled n d f (m + 1)
@@ -49,3 +44,7 @@ module _ {A : Type 0} (n : ℕ) (d : A) (f : ℕ → A) where
   -- the next of a group that begins at m
   pub fill-next : {bs : List A} {x : A} (m j : ℕ) → bs ≡ filled n d f (m + j) → m + j < n → x ≡ f (m + j) → set bs (m + j) x ≡ filled n d f (m + suc j)
   fill-next m j e h q = fill-place (m + j) e h q ∙ ap (filled n d f) (omega arith)
+
+-- all places of a list
+pub fill-list : {A : Type 0} {n : ℕ} (d : A) (xs : List A) {m : ℕ} → m ≡ n → length xs ≡ n → filled n d (λ k. getD xs k d) m ≡ xs
+fill-list {n = n} d xs p l = ap (filled n d (λ k. getD xs k d)) p ∙ (fill-end n d (λ k. getD xs k d) ∙ tabulate-getD xs n d l)

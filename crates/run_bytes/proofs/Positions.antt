@@ -1,12 +1,10 @@
 -- Which byte of a run stands where. Assumes nothing.
-use mathlib.Core.Path.{_≡_, refl, sym, ap, ap₂, _∙_}
+use mathlib.Core.Path.{_≡_}
 use mathlib.Core.List.{List}
-use Prim.Native.Nat.{ℕ, suc, _+_, _*_, _-_, _/_, _%_, _≤_, _<_}
+use Prim.Native.Nat.{ℕ, _+_, _*_, _-_, _/_, _%_, _<_}
 use native.Mathlib.Omega.{arith}
-use lib.Dec.{ltb}
 use lib.ListN.{length, getD}
 use borrow.Author.Tests.{lt-ltb, le-ltb}
-use Rattle.tables.specs.Choice.{pick}
 use Rattle.tables.proofs.Places.{length-tabulate, getD-tabulate}
 use Rattle.tables.specs.declared.run.Run.{Run}
 use Rattle.run_bytes.specs.Bytes.{byteOf, runBytes, runLength, wordByte, rowByte, rowOf, tailByte}

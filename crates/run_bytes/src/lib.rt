@@ -17,11 +17,11 @@ use tables::row::Formula;
 use tables::row::Row;
 use tables::row::RowPlace;
 use tables::run::Run;
-use text::search::same;
 
+// How many bytes a run has.
 pub const RUN_LENGTH: usize = 1220;
 
-// The eight bytes of a word behind the bytes so far, in one piece, so that the compiler makes one store of them.
+// The eight bytes of a word behind the bytes so far; side by side, so that the compiler makes one store of them.
 fn put_word(bytes: &mut [u8; RUN_LENGTH], at: usize, word: u64)
     requires { ⌜ at + 8 ≤ runLength ⌝ }
     ensures more { λ r. ⌜ ((f : ℕ → ℕ) → ((j : ℕ) → j < 8 → f (at + j) ≡ wordByte word j)
@@ -37,6 +37,7 @@ fn put_word(bytes: &mut [u8; RUN_LENGTH], at: usize, word: u64)
     bytes[at + 7] = (word / 72057594037927936 % 256) as u8;
 }
 
+// The bytes of the words; then those of the rows; then the last four.
 fn put_words(bytes: &mut [u8; RUN_LENGTH], run: Run)
     ensures more { λ r. ⌜ (now (bytes .entry) ≡ filled runLength 0 (byteOf run) 0
         → now (bytes .exit) ≡ filled runLength 0 (byteOf run) 1024) ⌝ }
@@ -48,6 +49,7 @@ fn put_words(bytes: &mut [u8; RUN_LENGTH], run: Run)
     }
 }
 
+// The three bytes of a row behind the bytes so far.
 fn put_row(bytes: &mut [u8; RUN_LENGTH], at: usize, row: Row)
     requires { ⌜ at + 3 ≤ runLength ⌝ }
     ensures more { λ r. ⌜ ((f : ℕ → ℕ) → ((j : ℕ) → j < 3 → f (at + j) ≡ rowByte row j)
@@ -114,6 +116,7 @@ fn word_at(bytes: &[u8], at: usize) -> u64
         + 72057594037927936 * wide(bytes[at + 7])
 }
 
+// The words that bytes hold; the rows; the number of cycles.
 fn words_in(bytes: &[u8]) -> [u64; 128]
     requires { ⌜ length (now bytes) ≡ runLength ⌝ }
     ensures words { λ r. ⌜ ((run : Run) → Fits run → now (bytes .entry) ≡ runBytes run → r ≡ run .words) ⌝ }
@@ -181,12 +184,13 @@ fn decode(bytes: &[u8]) -> Run
     }
 }
 
-// What bytes hold: a run, where they are the bytes of one.
+// What bytes hold: a run, where they are the whole bytes of one; else `run` says nothing.
 pub struct Held {
     pub whole: bool,
     pub run: Run,
 }
 
+// What stands beside bytes that are too few or too many.
 fn empty_run() -> Run {
     let places = [RowPlace {
         row: Row::Constant(ConstantKind::True),
@@ -201,6 +205,22 @@ fn empty_run() -> Run {
         cycles: 0,
         words: [0; 128],
     }
+}
+
+// Whether the bytes are the same. There is no early exit, so that the compiler compares many bytes at once.
+fn same(again: &[u8; RUN_LENGTH], bytes: &[u8]) -> bool
+    requires { ⌜ (length (now again) ≡ runLength) × (length (now bytes) ≡ runLength) ⌝ }
+    ensures answer { λ r. ⌜ (r ≡ true → now (again .entry) ≡ now (bytes .entry)) × (now (again .entry) ≡ now (bytes .entry) → r ≡ true) ⌝ }
+{
+    let mut all = true;
+    let mut i = 0;
+    while i < RUN_LENGTH {
+        if again[i] != bytes[i] {
+            all = false;
+        }
+        i += 1;
+    }
+    all
 }
 
 // The run that bytes hold: decoded, and encoded again to see whether each byte is as it would be.

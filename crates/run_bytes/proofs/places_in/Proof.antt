@@ -1,11 +1,10 @@
 use Prim.Native.Nat.{_+_, _*_, _-_, _≤_, _<_}
-use mathlib.Core.Path.{_≡_, refl, sym, ap, _∙_}
+use mathlib.Core.Path.{_≡_, sym, ap, _∙_}
 use lib.ListN.{getD}
 use borrow.Author.Needs.{needs}
 use Rattle.tables.specs.declared.run.Run.{Run}
-use Rattle.tables.proofs.Places.{tabulate-getD}
 use Rattle.run_bytes.specs.Bytes.{Fits, runBytes, filled, noPlace, rowOf}
-use Rattle.run_bytes.proofs.Filled.{fill-start, fill-place, fill-end}
+use Rattle.run_bytes.proofs.Filled.{fill-start, fill-place, fill-list}
 use Rattle.run_bytes.proofs.Decoding.{row-bytes, row-again}
 use native.Mathlib.Omega.{arith}
 use Rattle.run_bytes.proofs.places_in.Statement.{statement}
@@ -38,7 +37,7 @@ returns : tie.Need-returns Inv-loop μ-loop
 returns c =
     let loop = c .before .loop in
     let end : loop .k ≡ 64 = search needs in
-    λ run fits e. loop .inv .1 run fits e ∙ (ap (filled 64 noPlace (λ k. getD (run .formula .places) k noPlace)) end ∙ (fill-end 64 noPlace (λ k. getD (run .formula .places) k noPlace) ∙ tabulate-getD (run .formula .places) 64 noPlace (fits .places)))
+    λ run fits e. loop .inv .1 run fits e ∙ fill-list noPlace (run .formula .places) end (fits .places)
 
 pub places-in-spec : {M : Type 1} → statement M
 places-in-spec =

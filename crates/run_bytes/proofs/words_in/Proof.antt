@@ -1,11 +1,10 @@
-use Prim.Native.Nat.{_+_, _*_, _-_, _≤_, _<_}
-use mathlib.Core.Path.{_≡_, refl, sym, ap, _∙_}
+use Prim.Native.Nat.{_-_, _≤_, _<_}
+use mathlib.Core.Path.{_≡_, _∙_}
 use lib.ListN.{getD}
 use borrow.Author.Needs.{needs}
 use Rattle.tables.specs.declared.run.Run.{Run}
-use Rattle.tables.proofs.Places.{tabulate-getD}
 use Rattle.run_bytes.specs.Bytes.{Fits, runBytes, filled}
-use Rattle.run_bytes.proofs.Filled.{fill-start, fill-place, fill-end}
+use Rattle.run_bytes.proofs.Filled.{fill-start, fill-place, fill-list}
 use Rattle.run_bytes.proofs.Decoding.{word-bytes}
 use Rattle.run_bytes.proofs.words_in.Statement.{statement}
 use Rattle.run_bytes.proofs.words_in.Tie as tie
@@ -32,7 +31,7 @@ returns : tie.Need-returns Inv-loop μ-loop
 returns c =
     let loop = c .before .loop in
     let end : loop .i ≡ 128 = search needs in
-    λ run fits e. loop .inv .1 run fits e ∙ (ap (filled 128 0 (λ k. getD (run .words) k 0)) end ∙ (fill-end 128 0 (λ k. getD (run .words) k 0) ∙ tabulate-getD (run .words) 128 0 (fits .words)))
+    λ run fits e. loop .inv .1 run fits e ∙ fill-list 0 (run .words) end (fits .words)
 
 pub words-in-spec : {M : Type 1} → statement M
 words-in-spec =
