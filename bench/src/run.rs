@@ -38,11 +38,13 @@ fn is_row(row: &[u8], earlier: usize, signals: usize) -> bool {
 }
 
 /// Whether digits stand for these signals and cycles only.
-fn digits_fit(words: &[u8], counts: Counts) -> bool {
-    words.chunks_exact(8).enumerate().all(|(w, bytes)| {
-        let word = u64::from_le_bytes(bytes.try_into().unwrap());
-        let taken = counts.cycles.saturating_sub(w / 32 * 64);
-        word == 0 || w % 32 < counts.signals && (taken >= 64 || word >> taken == 0)
+fn digits_fit(digits: &[u8], counts: Counts) -> bool {
+    digits.chunks_exact(256).enumerate().all(|(block, words)| {
+        let taken = counts.cycles.saturating_sub(64 * block);
+        let behind = u64::MAX.checked_shl(taken as u32).unwrap_or(0);
+        let (used, unused) = words.split_at(8 * counts.signals);
+        used.chunks_exact(8).all(|bytes| u64::from_le_bytes(bytes.try_into().unwrap()) & behind == 0)
+            && unused.iter().all(|&byte| byte == 0)
     })
 }
 
