@@ -83,6 +83,8 @@ def runs(rule, rules):
     calls = b"10\n01\n"
     places = [0, 8, 16, 255, 256, 1023, *range(1024, 1045), 1215, *range(1216, 1220)]
     yield from ([rule, calls, changes((place, bits))] for place in places for bits in (1, 2, 4, 128))
+    plain = b"format=1\nsignals=1\nrows=1\nr1=true\n"  # zeros but for its counts
+    yield from ([plain, b"0\n", changes((place, 1))] for place in range(1216, 1220))
     yield from ([rule, calls, changes((1218, count), (1219, high))] for count, high in ((1, 0), (2, 0), (0xFD, 0), (2, 1), (3, 1)))
     yield from ([rule, calls, changes((1220 + length, 0))] for length in (0, 1, 1216, 1219, 1221, 1500))
 

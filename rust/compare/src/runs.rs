@@ -10,33 +10,35 @@ use crate::trials::{with_outputs, Make};
 use citronhelm::RUN;
 
 /// Every list of up to three cycles for every rule of up to two rows with one signal; a run from its first cycle to one beyond its
-/// last; and, of one run, every bit turned, every byte of its rows and counts in place of each of them, and every length about it.
+/// last; and changes of two runs, one of which has nothing but zeros beside its counts.
 pub fn all_small(make: Make) -> Result<(), String> {
     for rows in rules(1, 2) {
         all_cycles(&begun(&rule(1, &rows)), 3, make)?;
     }
     whole(make)?;
-    let run = after_cycles(&rule(2, &["sig 1", "nsig 2", "until 1 2"]), &["11", "10"]);
-    let mut both = |run: &[u8]| {
-        verdict(run, make)?;
-        after(cycle(run, b"01"), make).map(drop)
+    all_changes(&after_cycles(&rule(2, &["sig 1", "nsig 2", "until 1 2"]), &["11", "10"]), b"01", make)?;
+    all_changes(&after_cycles(&rule(1, &["true"]), &["0"]), b"0", make)
+}
+
+/// Calls on a run with each bit turned, with each value in the place of each byte of its first rows and its counts, and with each length
+/// about its own.
+fn all_changes(run: &[u8], digits: &[u8], make: Make) -> Result<(), String> {
+    let mut both = |change: &dyn Fn(&mut Vec<u8>)| {
+        let mut run = run.to_vec();
+        change(&mut run);
+        verdict(&run, make)?;
+        after(cycle(&run, digits), make).map(drop)
     };
     for bit in 0..8 * RUN {
-        let mut run = run.clone();
-        run[bit / 8] ^= 1 << (bit % 8);
-        both(&run)?;
+        both(&|run| run[bit / 8] ^= 1 << (bit % 8))?;
     }
     for place in (1024..1024 + 4 * 3).chain(1216..RUN) {
         for byte in 0..=255 {
-            let mut run = run.clone();
-            run[place] = byte;
-            both(&run)?;
+            both(&|run| run[place] = byte)?;
         }
     }
     for length in 0..RUN + 80 {
-        let mut run = run.clone();
-        run.resize(length, 0);
-        both(&run)?;
+        both(&|run| run.resize(length, 0))?;
     }
     Ok(())
 }
