@@ -75,11 +75,11 @@ def runs(rule, rules):
     yield from ([*pair, b""] for pair in examples("rule.txt", "cycles.txt"))
     yield from ([other, b"?\n10\n?\n0x1\n1\n01\n?\n", b""] for other in rules)
     for count in (63, 64, 65, 128, 192, 255, 256, 257):
-        for row in ("always 1", "ever 1"):
-            lines = ["1\n" if row[0] == "a" else "0\n"] * count
+        for row, same, other in (("always 1", "1", "0"), ("ever 1", "0", "1")):
             long_rule = f"format=1\nsignals=1\nrows=2\nr1=sig 1\nr2={row}\n".encode()
-            yield [long_rule, "".join(lines).encode(), b""]
-            yield [long_rule, "".join([*lines[1:], "0\n" if row[0] == "a" else "1\n"]).encode(), b""]
+            for last in (same, other):
+                lines = [same] * (count - 1) + [last, "?", "00", "0x"]
+                yield [long_rule, "".join(f"{line}\n" for line in lines).encode(), b""]
     calls = b"10\n01\n"
     places = [0, 8, 16, 255, 256, 1023, *range(1024, 1045), 1215, *range(1216, 1220)]
     yield from ([rule, calls, changes((place, bits))] for place in places for bits in (1, 2, 4, 128))
