@@ -193,9 +193,9 @@ uint64_t citronhelm_check_sheet(
 uint64_t citronhelm_run_begin(const uint8_t *rule, size_t rule_length, uint8_t *run, size_t run_length);
 
 /*
- * Hands the next cycle to a run: its digits, the bytes '0' and '1', signal 1 first. Answers 0, and the run has one cycle more. What came
- * before makes no difference to the time it takes. Refused in this order with 4 (no state of a run), 2 (another byte than '0' or '1'),
- * 7 (another number of digits than signals), 11 (256 cycles already): it is then no cycle, and the run goes on as it was.
+ * Hands the next cycle to a run: its digits, the bytes '0' and '1', signal 1 first. Answers 0, and the run has one cycle more. Refused in
+ * this order with 4 (no state of a run), 2 (another byte than '0' or '1'), 7 (another number of digits than signals), 11 (256 cycles
+ * already): it is then no cycle, and the run goes on as it was.
  */
 uint64_t citronhelm_run_cycle(uint8_t *run, size_t run_length, const uint8_t *digits, size_t digits_length);
 
