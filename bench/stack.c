@@ -2,7 +2,8 @@
  * Says how much stack a call of the library takes: makes it on a stack filled with a pattern and looks for the lowest byte that no
  * longer has it. For x86-64; built and run by bench/stack.py.
  *
- *     stack FUNCTION OUTPUT_LENGTH FILE...     FUNCTION without `citronhelm_`, a file for each input, in the parameters' order
+ *     stack FUNCTION OUTPUT_LENGTH FILE...     FUNCTION without `citronhelm_`, a file for each input, in the parameters' order; a run
+ *                                              that is altered counts as an input
  *
  * Prints the answer and the bytes below the call, return address included.
  */
@@ -45,7 +46,7 @@ static const struct {
     FUNCTION(read_rule, 1, 0),   FUNCTION(read_take, 1, 0),   FUNCTION(read_sheet, 1, 0), FUNCTION(bound, 1, 0),
     FUNCTION(rows, 1, 0),        FUNCTION(normal, 1, 1),      FUNCTION(judge, 2, 0),      FUNCTION(judge_looped, 2, 0),
     FUNCTION(judge_open, 2, 0),  FUNCTION(judge_text, 2, 1),  FUNCTION(step, 4, 1),       FUNCTION(make_sheet, 2, 1),
-    FUNCTION(check_sheet, 3, 0),
+    FUNCTION(check_sheet, 3, 0), FUNCTION(run_begin, 1, 1),   FUNCTION(run_cycle, 2, 0),  FUNCTION(run_verdict, 1, 0),
 };
 
 static uint8_t stack[STACK_BYTES] __attribute__((aligned(4096)));
@@ -63,25 +64,25 @@ int main(int count, char **words)
         fprintf(stderr, "usage: %s FUNCTION OUTPUT_LENGTH FILE...\n", words[0]);
         return 2;
     }
-    uintptr_t passed[10] = {0};
-    int next = 0;
-    for (int i = 0; i < FUNCTIONS[which].inputs; i++) {
-        FILE *file = fopen(words[3 + i], "rb");
-        if (file == NULL)
-            return perror(words[3 + i]), 2;
-        passed[next++] = (uintptr_t)input[i];
-        passed[next++] = fread(input[i], 1, MOST_BYTES, file);
-        fclose(file);
-    }
-    if (strcmp(words[1], "normal") == 0)
-        passed[next++] = 0; /* not the negated rule's */
-    if (FUNCTIONS[which].writes) {
-        passed[next++] = (uintptr_t)output;
-        passed[next++] = strtoul(words[2], NULL, 10);
-    }
     size_t end = STACK_BYTES - 4096, lowest = end;
     uint64_t answer = 0;
     for (int round = 0; round < 2; round++) {
+        uintptr_t passed[10] = {0};
+        int next = 0;
+        for (int i = 0; i < FUNCTIONS[which].inputs; i++) {
+            FILE *file = fopen(words[3 + i], "rb");
+            if (file == NULL)
+                return perror(words[3 + i]), 2;
+            passed[next++] = (uintptr_t)input[i];
+            passed[next++] = fread(input[i], 1, MOST_BYTES, file);
+            fclose(file);
+        }
+        if (strcmp(words[1], "normal") == 0)
+            passed[next++] = 0; /* not the negated rule's */
+        if (FUNCTIONS[which].writes) {
+            passed[next++] = (uintptr_t)output;
+            passed[next++] = strtoul(words[2], NULL, 10);
+        }
         for (size_t place = 0; place < STACK_BYTES; place++)
             stack[place] = pattern(place, round);
         memcpy(stack + end, passed + 6, 4 * sizeof passed[0]);

@@ -99,11 +99,11 @@ def promised():
 
 
 def full_size(folder):
-    """The rule, the looped take, the open one and the sheet of full size."""
+    """The rule, the looped take, the open one, the sheet and the runs of full size, the last of which has all cycles."""
     subprocess.run([os.path.join(ROOT, 'target/bench/release/speed'), 'write', folder], check=True)
     files = []
-    for name in ('rule', 'take', 'open', 'sheet'):
-        with open(os.path.join(folder, name + '.txt'), 'rb') as file:
+    for name in ('rule.txt', 'take.txt', 'open.txt', 'sheet.txt', 'run-0', 'run-128', 'run-255', 'run-256'):
+        with open(os.path.join(folder, name), 'rb') as file:
             files.append(file.read())
     return files
 
@@ -119,6 +119,16 @@ def damaged(file):
     yield file + b'a' * (65537 - len(file))
     yield file[:-2] + b'x\n'
     yield file[:-1]
+
+
+def changed(run):
+    """A run as it is; with other lengths; with a byte changed among its digits, its rows, behind these, and in each of its counts."""
+    yield run
+    yield b''
+    yield run[:-1]
+    yield run + b'\0'
+    for place in (0, 511, 1023, 1024, 1025, 1214, 1215, 1216, 1217, 1218, 1219):
+        yield run[:place] + bytes([run[place] ^ 130]) + run[place + 1:]
 
 
 def with_row(rule, row):
@@ -137,7 +147,7 @@ def turned(sheet, line, place):
 
 def calls(folder):
     """Each function with its inputs and output lengths to try."""
-    rule, looped, opened, sheet = full_size(folder)
+    rule, looped, opened, sheet, *runs = full_size(folder)
     other = rule.replace(b'signals=32', b'signals=31').replace(b'sig 32', b'sig 31')
     rules = [*damaged(rule), with_row(rule, b'true'), with_row(rule, b'false'), b'format=1\nsignals=32\nrows=1\nr1=true\n', other]
     takes = [*damaged(looped), *damaged(opened)]
@@ -148,6 +158,7 @@ def calls(folder):
         for name in ('read_rule', 'bound', 'rows'):
             yield name, [one], [0]
         yield 'normal', [one], [0, 2845]
+        yield 'run_begin', [one], [0, 1219, 1220, 2000]
         rows = b'0' * 125
         for pendings, activators, signals in ((rows, rows, b'0' * 32), (b'1' * 125, b'1' * 125, b'1' * 32), (rows, b'1' * 125, b'0' * 32),
                                               (rows, rows, b'0' * 31), (rows, rows[1:], b'0' * 32), (b'2' + rows[1:], rows, b'0' * 32)):
@@ -166,6 +177,11 @@ def calls(folder):
     for one in rules:
         for two in (looped, opened, b''):
             yield 'check_sheet', [one, two, sheet], [0]
+    for run in runs:
+        for one in changed(run):
+            yield 'run_verdict', [one], [0]
+            for digits in (b'01' * 16, b'0' * 31, b'1' * 33, b'0' * 31 + b'2', b''):
+                yield 'run_cycle', [one, digits], [0]
 
 
 def measured(binding):

@@ -63,6 +63,32 @@ def limits():
             yield [rule.encode(), take.encode(), sheet.encode()]
 
 
+def changes(*pairs):
+    """Changes of a run's bytes: places, and the bits to turn there; a place behind the run gives its length (src/runs.rs)."""
+    return b"".join(place.to_bytes(2, "big") + bytes([bits]) for place, bits in pairs)
+
+
+def runs(rule, rules):
+    """Runs of the examples and of all rules; long ones, since words of digits end at each 64 cycles and the run at 256; and changed ones:
+    the digit of a cycle, of one that was not handed over, of a signal that is not there; each byte of the rows and of the place behind
+    them; the counts; and other lengths."""
+    yield from ([*pair, b""] for pair in examples("rule.txt", "cycles.txt"))
+    yield from ([other, b"?\n10\n?\n0x1\n1\n01\n?\n", b""] for other in rules)
+    for count in (63, 64, 65, 128, 192, 255, 256, 257):
+        for row, same, other in (("always 1", "1", "0"), ("ever 1", "0", "1")):
+            long_rule = f"format=1\nsignals=1\nrows=2\nr1=sig 1\nr2={row}\n".encode()
+            for last in (same, other):
+                lines = [same] * (count - 1) + [last, "?", "00", "0x"]
+                yield [long_rule, "".join(f"{line}\n" for line in lines).encode(), b""]
+    calls = b"10\n01\n"
+    places = [0, 8, 16, 255, 256, 1023, *range(1024, 1045), 1215, *range(1216, 1220)]
+    yield from ([rule, calls, changes((place, bits))] for place in places for bits in (1, 2, 4, 128))
+    plain = b"format=1\nsignals=1\nrows=1\nr1=true\n"  # zeros but for its counts
+    yield from ([plain, b"0\n", changes((place, 1))] for place in range(1216, 1220))
+    yield from ([rule, calls, changes((1218, count), (1219, high))] for count, high in ((1, 0), (2, 0), (0xFD, 0), (2, 1), (3, 1)))
+    yield from ([rule, calls, changes((1220 + length, 0))] for length in (0, 1, 1216, 1219, 1221, 1500))
+
+
 def seeds():
     rules, takes, sheets = of_kind("rule"), of_kind("take"), of_kind("sheet")
     rule, take, sheet = [(DATA / name).read_bytes() for name in ("rule-a", "take-a", "sheet-a")]
@@ -75,6 +101,7 @@ def seeds():
     triples = [[*pair, sheet] for pair in pairs] + [[rule, take, other] for other in sheets] + list(limits())
     yield "check", [join(*triple) for triple in [*examples("rule.txt", "take.txt", "sheet.txt"), *triples]]
     yield "step", [join(other, b"00000", b"11111", b"10") for other in rules]
+    yield "run", [join(*run) for run in runs(rule, rules)]
 
 
 def main():

@@ -3,17 +3,17 @@
  * definitions say, for every input (docs/CLAIMS.md).
  *
  * Files are given as bytes: a pointer and a length. A pointer may be of any value where its length is 0. No function keeps a pointer,
- * has a state or asks for memory. Input bytes are never altered.
+ * has a state of its own or asks for memory: what a run keeps from call to call are bytes of the caller's. Input bytes are never altered.
  *
  * No function fails on any input. This presumes of the caller, and no proof can look at it:
  *  - that each pointer is valid for its length: so many bytes are there to be read, and to be written where it is an output;
- *  - that the output does not lie over an input;
+ *  - that the output, or the run that a call alters, does not lie over an input;
  *  - that the stack has the room below the call that CITRONHELM_STACK_... gives. With less, a process whose stack ends in a guard
  *    page ends by a signal.
  *
  * Every function answers one number. Its highest bit is set where the call is refused; citronhelm_reason, citronhelm_file and
  * citronhelm_line then give the refusal's number, file and line. A refused call leaves the whole output as it was. Where a call is
- * answered, the output begins with what was written, and the bytes behind it stay as they were.
+ * answered, the output begins with what was written, and the bytes behind it stay as they were. All this holds for a run as well.
  *
  * Refusals:
  *    1  the file is longer than 65,536 bytes
@@ -26,8 +26,9 @@
  *    8  a looped service has an open take, or an open service a looped one
  *    9  the sheet's rows or cycles differ from the normal form's or the take's
  *   10  the output is shorter than what is to be written
- * File: 1 rule, 2 take, 3 sheet. Line: from 1; 0 for refusal 1. File and line are 0 for 7 to 10, and for a 2 of citronhelm_step that is
- * not the rule's: by that it is told from one that is.
+ *   11  a run has 256 cycles already, and one more is handed over
+ * File: 1 rule, 2 take, 3 sheet. Line: from 1; 0 for refusal 1. File and line are 0 for 7 to 11, for a 2 of citronhelm_step that is
+ * not the rule's (by that it is told from one that is), and for every refusal of citronhelm_run_cycle and citronhelm_run_verdict.
  * Files are read in the order rule, take, sheet; the first fault is the one that is told.
  */
 #ifndef CITRONHELM_H
@@ -45,6 +46,9 @@ extern "C" {
 #define CITRONHELM_MOST_NORMAL 2845u /* citronhelm_normal */
 #define CITRONHELM_MOST_STEP 384u    /* citronhelm_step */
 #define CITRONHELM_MOST_SHEET 33567u /* citronhelm_make_sheet */
+
+/* How many bytes a run has. */
+#define CITRONHELM_RUN 1220u
 
 /*
  * How much stack a call needs at most, in bytes below the call: measured and rounded up; the machine code takes no more on any input
@@ -64,6 +68,9 @@ extern "C" {
 #define CITRONHELM_STACK_STEP 4096u
 #define CITRONHELM_STACK_MAKE_SHEET 18432u
 #define CITRONHELM_STACK_CHECK_SHEET 25600u
+#define CITRONHELM_STACK_RUN_BEGIN 24576u
+#define CITRONHELM_STACK_RUN_CYCLE 24576u
+#define CITRONHELM_STACK_RUN_VERDICT 24576u
 
 /* Whether an answer is a refusal; its number, file and line. */
 static inline int citronhelm_refused(uint64_t answer) { return (int)(answer >> 63); }
@@ -168,6 +175,35 @@ static inline unsigned citronhelm_row(uint64_t answer) { return (unsigned)(answe
 static inline uint32_t citronhelm_cycle(uint64_t answer) { return (uint32_t)(answer >> 16); }
 uint64_t citronhelm_check_sheet(
     const uint8_t *rule, size_t rule_length, const uint8_t *take, size_t take_length, const uint8_t *sheet, size_t sheet_length);
+
+/*
+ * A run judges a take while it is recorded: it is begun with a rule, is handed one cycle after another, and may be asked for the verdict
+ * between any two. It is CITRONHELM_RUN bytes that the caller lends. They hold the rule and the cycles so far and no pointer: they may
+ * be copied, stored, sent and gone on with elsewhere, and equal bytes are equal rules and cycles. How they do so stands in
+ * docs/FORMATS.md, and is promised for this version of the library only.
+ *
+ * Bytes that beginning with some rule and then handing over some cycles never leaves are no state of a run: another number of bytes
+ * than CITRONHELM_RUN, or bytes with a change that no calls make. citronhelm_run_cycle and citronhelm_run_verdict refuse them with 4
+ * before anything else.
+ */
+
+/*
+ * Begins a run with a rule: writes the state with no cycle and answers its length, CITRONHELM_RUN. Refusals behind the rule's own: 10.
+ */
+uint64_t citronhelm_run_begin(const uint8_t *rule, size_t rule_length, uint8_t *run, size_t run_length);
+
+/*
+ * Hands the next cycle to a run: its digits, the bytes '0' and '1', signal 1 first. Answers 0, and the run has one cycle more. Refused in
+ * this order with 4 (no state of a run), 2 (another byte than '0' or '1'), 7 (another number of digits than signals), 11 (256 cycles
+ * already): it is then no cycle, and the run goes on as it was.
+ */
+uint64_t citronhelm_run_cycle(uint8_t *run, size_t run_length, const uint8_t *digits, size_t digits_length);
+
+/*
+ * The verdict on the cycles so far: what citronhelm_judge_open answers for the rule and the take file of these cycles (CITRONHELM_KEPT,
+ * CITRONHELM_BROKEN or CITRONHELM_OPEN). The run goes on as if nobody had asked. Refused with 4: no state of a run, or no cycle yet.
+ */
+uint64_t citronhelm_run_verdict(const uint8_t *run, size_t run_length);
 
 #ifdef __cplusplus
 }

@@ -1,6 +1,6 @@
 #!/usr/bin/env bash
-# Tries the library from C and from Rust: builds it, holds its need of stack to the header's, runs the C program over examples/, the test
-# of steps in place, the tests of the Rust crates, the Rust program on an example, and the comparison with the second implementation. Holds
+# Tries the library from C and from Rust: builds it, holds its need of stack to the header's, runs the C programs over examples/, the test
+# of steps in place, the tests of the Rust crates, the Rust programs on examples, and the comparison with the second implementation. Holds
 # what crates/try_services must print to the second implementation, and to what stands by hand in tests/.
 # Stops at the first failure; what a step printed is shown only then.
 #     rust/check.sh        CITRONHELM_LIB=FOLDER takes FOLDER/libcitronhelm.a in the place of building it
@@ -24,6 +24,17 @@ rust_answers() {
     cargo run --offline --locked --release --example judge -- "$1" "$2" | tee "$scratch/answer" && grep -qx "$3" "$scratch/answer"
 }
 
+# What a program that watches a run answers to the cycles of examples/run must be the file there; of 257 cycles the last is refused.
+watch_answers() {
+    "$@" "$root/examples/run/rule.txt" <"$root/examples/run/cycles.txt" >"$scratch/answer" &&
+        diff "$scratch/answer" "$root/examples/run/expected-watch.txt" &&
+        "$@" "$root/examples/run/rule.txt" <"$scratch/cycles" >"$scratch/answer" &&
+        diff "$scratch/answer" "$scratch/watched"
+}
+root=$PWD
+printf '01\n%.0s' {1..257} >"$scratch/cycles"
+{ printf 'open\n%.0s' {1..256} && echo refused=11; } >"$scratch/watched"
+
 if [ -z "${CITRONHELM_LIB:-}" ]; then
     quietly rt staticlib citronhelm
     CITRONHELM_LIB=target/staticlib
@@ -36,6 +47,8 @@ compile=(cc -std=c99 -pedantic -Wall -Wextra -Werror -O2 -I include)
 quietly "${compile[@]}" tests/step_in_place.c "$CITRONHELM_LIB/libcitronhelm.a" -o "$scratch/step_in_place"
 quietly "$scratch/step_in_place"
 quietly "${compile[@]}" examples/c/judge.c "$CITRONHELM_LIB/libcitronhelm.a" -o "$scratch/judge"
+quietly "${compile[@]}" examples/c/watch.c "$CITRONHELM_LIB/libcitronhelm.a" -o "$scratch/watch"
+quietly watch_answers "$scratch/watch"
 judged=0
 for folder in examples/*/; do
     [ -e "${folder}rule.txt" ] && [ -e "${folder}take.txt" ] && [ -e "${folder}expected.txt" ] || continue
@@ -53,5 +66,7 @@ quietly cargo test --offline --locked --release --workspace
 quietly ../tests/make_cases.py --check
 tail -n 1 "$scratch/said"
 quietly rust_answers ../examples/rule_a/rule.txt ../examples/rule_a/take.txt verdict=holds
+quietly watch_answers cargo run --quiet --offline --locked --release --example watch --
 cargo run --quiet --offline --locked --release -p compare
-echo "rust/check.sh: C judged $judged examples and stepped in place; the Rust crates' tests pass; library and second implementation agree"
+echo "rust/check.sh: C judged $judged examples, watched a run and stepped in place; the Rust crates' tests pass; library and second" \
+    "implementation agree"

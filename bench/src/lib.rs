@@ -8,6 +8,7 @@ pub mod monitors;
 pub mod normal;
 pub mod reading;
 pub mod rule;
+pub mod run;
 pub mod sheets;
 pub mod take;
 pub mod truth;

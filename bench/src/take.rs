@@ -10,6 +10,11 @@ pub struct Take {
 }
 
 impl Take {
+    /// An open take of these bits, the signals of a cycle one behind the other.
+    pub fn open(signals: usize, cycles: usize, bits: Vec<bool>) -> Take {
+        Take { signals, cycles, loop_at: None, bits }
+    }
+
     /// Signal s (from 1) at cycle i.
     pub fn signal(&self, s: usize, i: usize) -> bool {
         self.bits[i * self.signals + s - 1]

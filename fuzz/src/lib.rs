@@ -8,6 +8,7 @@ mod mend;
 mod mutate;
 mod parts;
 mod random;
+mod runs;
 mod tally;
 mod target;
 

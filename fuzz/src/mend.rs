@@ -47,6 +47,12 @@ pub fn sheet(file: &[u8], rows: usize, cycles: usize) -> Vec<u8> {
     format!("format=1\nrows={rows}\ncycles={cycles}\n{}", (1..=rows).map(row).collect::<String>()).into_bytes()
 }
 
+/// Calls of a run with this number of signals, a line each: a cycle, or `?` for the verdict.
+pub fn calls(file: &[u8], signals: usize) -> Vec<u8> {
+    let call = |line: &[u8]| if line == b"?" { "?\n".to_string() } else { format!("{}\n", digits(line, signals)) };
+    lines(file).into_iter().map(call).collect::<String>().into_bytes()
+}
+
 /// As many digits as `length` says: those that are there, other bytes by their lowest bit; then 1.
 pub fn digits(bytes: &[u8], length: usize) -> String {
     let there = bytes.iter().map(|byte| if byte & 1 == 1 { '1' } else { '0' });

@@ -18,6 +18,9 @@ pub fn mutated(target: Target, input: &[u8], seed: u32, by_bytes: &mut dyn FnMut
         if target == Target::Check && random.below(3) == 0 {
             put_made_sheet(&mut files, &mut random);
         }
+        if target == Target::Run && random.below(3) == 0 {
+            put_change(&mut files[2], &mut random);
+        }
         if random.below(4) == 0 {
             let number = random.below(files.len());
             put_number(&mut files[number], &mut random);
@@ -38,7 +41,21 @@ fn put_number(file: &mut Vec<u8>, random: &mut Random) {
     file.splice(start..start + length, NUMBERS[random.below(NUMBERS.len())].bytes());
 }
 
-/// Makes all files valid and fitting.
+/// Puts another change of a run's bytes behind those given, or in their place: a bit among the digits, in a row, or in one of the counts.
+fn put_change(changes: &mut Vec<u8>, random: &mut Random) {
+    if random.below(2) == 0 {
+        changes.clear();
+    }
+    let place = match random.below(4) {
+        0 => random.below(1024),
+        1 | 2 => 1024 + random.below(24),
+        _ => 1216 + random.below(4),
+    };
+    changes.extend((place as u16).to_be_bytes());
+    changes.push(1 << random.below(8));
+}
+
+/// Makes all files valid and fitting. Changes of a run's bytes are always that.
 fn mend_all(target: Target, files: &mut [Vec<u8>]) {
     match files {
         [take] if target == Target::Take => *take = mend::take(take, mend::count(take, 1, 32)).0,
@@ -51,6 +68,7 @@ fn mend_all(target: Target, files: &mut [Vec<u8>]) {
             let rows = second::rows(rule).expect("a mended rule is read");
             match others {
                 [take] => *take = mend::take(take, signals).0,
+                [calls, _] if target == Target::Run => *calls = mend::calls(calls, signals),
                 [take, sheet] => {
                     let cycles;
                     (*take, cycles) = mend::take(take, signals);

@@ -20,7 +20,7 @@ fn kind(service: &str, answer: u64) -> String {
     let word = |words: [&str; 5]| words[(answer & 255) as usize - 1].to_string();
     match service {
         _ if answer >> 63 == 1 => format!("refused with {:2}", answer & 255),
-        "judge" | "judge_looped" | "judge_open" => word(["holds", "breaks", "kept", "broken", "open"]),
+        "judge" | "judge_looped" | "judge_open" | "run_verdict" => word(["holds", "breaks", "kept", "broken", "open"]),
         "check_sheet" => word(["root", "failed", "starved", "pending", "passes"]),
         "make_sheet" if answer == 0 => "none".to_string(),
         _ => "answered".to_string(),

@@ -1,6 +1,7 @@
 //! The targets: which files an input holds, and which services are called with them.
 
 use crate::compare::{alike, alike_writing, coded};
+use crate::runs::on_run;
 use crate::{library, parts, tally};
 use std::hint::black_box;
 use std::sync::OnceLock;
@@ -25,6 +26,8 @@ pub enum Target {
     Check,
     /// Rule, pendings, activators and signals: one step.
     Step,
+    /// Rule, calls and changes: a run.
+    Run,
 }
 
 use Target::*;
@@ -43,6 +46,7 @@ impl Target {
                 Some("judge") => Judge,
                 Some("check") => Check,
                 Some("step") => Step,
+                Some("run") => Run,
                 _ => panic!("{program} is not named after a target"),
             }
         })
@@ -53,7 +57,7 @@ impl Target {
         match self {
             Rule | Take | Sheet => 1,
             Judge => 2,
-            Check => 3,
+            Check | Run => 3,
             Step => 4,
         }
     }
@@ -69,6 +73,7 @@ impl Target {
                 alike("read_sheet", library::read_sheet(sheet), coded(second::read_sheet(sheet)))
             }
             [rule, take] => on_pair(rule, take),
+            [rule, calls, changes] if self == Run => on_run(rule, calls, changes),
             [rule, take, sheet] => alike(
                 "check_sheet",
                 library::check_sheet(rule, take, sheet),

@@ -3,7 +3,7 @@
 //!
 //! Each call is sound for the same reasons: a slice's pointer and length name memory that is there and set for the time of the
 //! call; the library reads inputs only, writes to its output only, within its length, and keeps no pointer; and an output, which
-//! is borrowed mutably, cannot lie over an input.
+//! is borrowed mutably, cannot lie over an input. A run that a call alters is such an output.
 
 #![allow(unsafe_code)]
 
@@ -59,6 +59,9 @@ extern "C" {
         sheet: *const u8,
         sheet_length: usize,
     ) -> u64;
+    fn citronhelm_run_begin(rule: *const u8, rule_length: usize, run: *mut u8, run_length: usize) -> u64;
+    fn citronhelm_run_cycle(run: *mut u8, run_length: usize, digits: *const u8, digits_length: usize) -> u64;
+    fn citronhelm_run_verdict(run: *const u8, run_length: usize) -> u64;
 }
 
 pub fn read_rule(rule: &[u8]) -> u64 {
@@ -128,4 +131,16 @@ pub fn make_sheet(rule: &[u8], take: &[u8], output: &mut [u8]) -> u64 {
 
 pub fn check_sheet(rule: &[u8], take: &[u8], sheet: &[u8]) -> u64 {
     unsafe { citronhelm_check_sheet(rule.as_ptr(), rule.len(), take.as_ptr(), take.len(), sheet.as_ptr(), sheet.len()) }
+}
+
+pub fn run_begin(rule: &[u8], run: &mut [u8]) -> u64 {
+    unsafe { citronhelm_run_begin(rule.as_ptr(), rule.len(), run.as_mut_ptr(), run.len()) }
+}
+
+pub fn run_cycle(run: &mut [u8], digits: &[u8]) -> u64 {
+    unsafe { citronhelm_run_cycle(run.as_mut_ptr(), run.len(), digits.as_ptr(), digits.len()) }
+}
+
+pub fn run_verdict(run: &[u8]) -> u64 {
+    unsafe { citronhelm_run_verdict(run.as_ptr(), run.len()) }
 }

@@ -8,7 +8,7 @@
 //! refused call leaves them as they were, and an answered one leaves the bytes behind its output as they were.
 //!
 //! The services have no state and need no memory but the caller's; the two functions whose names end in `_vec` allocate. [`Monitors`]
-//! keeps what [`step`] needs from one cycle to the next.
+//! keeps what [`step`] needs from one cycle to the next, and [`Run`] judges a take while it is recorded.
 //!
 //! The example below, which the other examples use as well, says: always, when signal 1 is on, sooner or later signal 2 is.
 //!
@@ -31,6 +31,7 @@ mod finding;
 mod judging;
 mod reading;
 mod refusal;
+mod run;
 mod sheets;
 mod steps;
 mod verdict;
@@ -39,6 +40,7 @@ pub use finding::Finding;
 pub use judging::{judge, judge_looped, judge_open, judge_text, MOST_TEXT};
 pub use reading::{bound, normal, normal_vec, read_rule, read_sheet, read_take, rows, MOST_NORMAL};
 pub use refusal::{File, Reason, Refusal};
+pub use run::{run_begin, run_cycle, run_verdict, Run, RUN};
 pub use sheets::{check_sheet, make_sheet, make_sheet_vec, MOST_SHEET};
 pub use steps::{step, Monitors, Outputs, MOST_STEP};
 pub use verdict::Verdict;

@@ -2,24 +2,26 @@
 
 use std::fmt;
 
-/// Why a call is turned back: one of ten reasons, with the number that files and programs give it.
+/// Why a call is turned back: one of eleven reasons, with the number that files and programs give it.
 #[derive(Clone, Copy, Debug, PartialEq, Eq, PartialOrd, Ord, Hash)]
 #[repr(u8)]
 pub enum Reason {
     /// 1: the file is longer than 65,536 bytes.
     TooLong = 1,
-    /// 2: a line is absent, surplus or not of the form given for its place. In [`step`](crate::step) also, with no file: a byte
-    /// is neither `'0'` nor `'1'`.
+    /// 2: a line is absent, surplus or not of the form given for its place. In [`step`](crate::step) and
+    /// [`run_cycle`](crate::run_cycle) also, with no file: a byte is neither `'0'` nor `'1'`.
     WrongForm = 2,
     /// 3: the format is not 1.
     WrongFormat = 3,
-    /// 4: a count lies outside its range.
+    /// 4: a count lies outside its range. Of a run, with no file: its bytes are no state that calls lead to, or it has no cycle
+    /// yet to give a verdict on.
     CountOutOfRange = 4,
     /// 5: a signal number is 0 or above `signals`, or an operand is 0 or not below its row.
     NumberOutOfRange = 5,
     /// 6: the loop's cycle is not below `cycles`.
     LoopOutOfRange = 6,
-    /// 7: rule and take differ in `signals`; in [`step`](crate::step), the number of signals is not the rule's.
+    /// 7: rule and take differ in `signals`; in [`step`](crate::step) and [`run_cycle`](crate::run_cycle), the number of signals
+    /// is not the rule's.
     DifferentSignals = 7,
     /// 8: a looped service has an open take, or an open service a looped one.
     OtherKindOfTake = 8,
@@ -28,6 +30,8 @@ pub enum Reason {
     DifferentSize = 9,
     /// 10: the lent output is shorter than what is to be written.
     OutputTooShort = 10,
+    /// 11: a run has 256 cycles already, and one more is handed over.
+    TooManyCycles = 11,
 }
 
 /// Which file is at fault.
@@ -64,7 +68,7 @@ pub struct Refusal {
 
 impl Reason {
     /// All reasons, by their numbers.
-    pub const ALL: [Reason; 10] = [
+    pub const ALL: [Reason; 11] = [
         Reason::TooLong,
         Reason::WrongForm,
         Reason::WrongFormat,
@@ -75,9 +79,10 @@ impl Reason {
         Reason::OtherKindOfTake,
         Reason::DifferentSize,
         Reason::OutputTooShort,
+        Reason::TooManyCycles,
     ];
 
-    /// The reason's number, 1 to 10.
+    /// The reason's number, 1 to 11.
     ///
     /// ```
     /// assert_eq!(citronhelm::Reason::WrongForm.number(), 2);
@@ -111,6 +116,7 @@ impl fmt::Display for Reason {
             Reason::OtherKindOfTake => "the take is of the other kind",
             Reason::DifferentSize => "the numbers of rows or cycles differ",
             Reason::OutputTooShort => "the output is too short",
+            Reason::TooManyCycles => "the run has 256 cycles already",
         })
     }
 }
@@ -147,7 +153,7 @@ pub(crate) fn answered(answer: u64) -> Result<u64, Refusal> {
         return Ok(answer);
     }
     let [reason, file, ..] = answer.to_le_bytes();
-    let reason = Reason::ALL.into_iter().find(|known| known.number() == reason).expect("reasons go from 1 to 10");
+    let reason = Reason::ALL.into_iter().find(|known| known.number() == reason).expect("reasons go from 1 to 11");
     let file = [File::Rule, File::Take, File::Sheet].into_iter().find(|known| known.number() == file);
     Err(Refusal { reason, file, line: (answer >> 16) as u32 })
 }

@@ -31,6 +31,12 @@ pub enum Service {
     MakeSheet,
     /// The check of a sheet.
     CheckSheet,
+    /// Begins a run.
+    RunBegin,
+    /// Hands the next cycle to a run.
+    RunCycle,
+    /// The verdict on a run so far.
+    RunVerdict,
 }
 
 /// A call.
@@ -42,14 +48,14 @@ pub struct Call {
     pub inputs: Vec<Vec<u8>>,
     /// Whether the negated rule is meant (`Normal` only).
     pub negated: bool,
-    /// The output lent, as it is before the call.
+    /// The output lent, as it is before the call; of `RunCycle` the run.
     pub output: Vec<u8>,
 }
 
 /// What a service says.
 #[derive(Clone, Debug, PartialEq, Eq)]
 pub enum Answer {
-    /// A file is accepted.
+    /// A file or a cycle is accepted.
     Accepted,
     /// A bound, a number of rows, or the length of what was written.
     Number(usize),
@@ -76,7 +82,7 @@ pub struct Outcome {
 
 impl Service {
     /// All services.
-    pub const ALL: [Service; 13] = [
+    pub const ALL: [Service; 16] = [
         Service::ReadRule,
         Service::ReadTake,
         Service::ReadSheet,
@@ -90,6 +96,9 @@ impl Service {
         Service::Step,
         Service::MakeSheet,
         Service::CheckSheet,
+        Service::RunBegin,
+        Service::RunCycle,
+        Service::RunVerdict,
     ];
 
     /// A call of a service that writes nothing.
@@ -120,6 +129,9 @@ impl fmt::Display for Service {
             Service::Step => "step",
             Service::MakeSheet => "make",
             Service::CheckSheet => "check",
+            Service::RunBegin => "begin",
+            Service::RunCycle => "cycle",
+            Service::RunVerdict => "verdict",
         })
     }
 }

@@ -3,6 +3,8 @@
 use crate::call::{Answer, Call, Service};
 use crate::comparison::Implementation;
 use crate::files::{rule, sheet, take};
+use crate::runs::after_cycles;
+use citronhelm::RUN;
 
 /// A call, its answer, and what is written if something is.
 struct Case(Call, Answer, &'static str);
@@ -46,7 +48,8 @@ const FINDINGS: &[(&[&str], Answer)] = &[
 
 /// Checks an implementation on every case; the number of cases.
 pub fn check(implementation: Implementation) -> Result<usize, String> {
-    let cases: Vec<Case> = [verdicts(), sheets(), limits(), written()].into_iter().flatten().collect();
+    let cases: Vec<Case> =
+        [verdicts(), sheets(), limits(), written(), runs(), wrong_runs()].into_iter().flatten().collect();
     for Case(call, answer, output) in &cases {
         let outcome = implementation(call);
         if outcome.answer != *answer || !outcome.output.starts_with(output.as_bytes()) {
@@ -104,6 +107,61 @@ fn written() -> Vec<Case> {
         Case(pair(Service::MakeSheet), Answer::Number(SHEET_A.len()), SHEET_A),
         Case(pair(Service::JudgeText), Answer::Number(TEXT_A.len()), TEXT_A),
     ]
+}
+
+/// Runs as they go: open, then broken; kept; and what is refused on the way.
+fn runs() -> Vec<Case> {
+    let begin = |rule: &[u8], room| Service::RunBegin.writing(&[rule], vec![0; room]);
+    let cycle = |run: &[u8], digits: &str| Service::RunCycle.writing(&[digits.as_bytes()], run.to_vec());
+    let verdict = |rows, cycles: &[&str]| Service::RunVerdict.of(&[&after_cycles(&rule(2, rows), cycles)]);
+    let said = |word: &str| Answer::Verdict(word.to_string());
+    let refused = |number| Answer::Refused(number, 0, 0);
+    let (a, full) = (after_cycles(&rule(2, A), &[]), after_cycles(&rule(2, A), &["00"; 256]));
+    vec![
+        Case(begin(&rule(2, A), RUN), Answer::Number(RUN), ""),
+        Case(begin(&rule(2, A), RUN - 1), refused(10), ""),
+        Case(begin(&rule(1, &["true"; 65]), 0), Answer::Refused(4, 1, 3), ""),
+        Case(verdict(A_NEXT, &[]), refused(4), ""),
+        Case(verdict(A_NEXT, &["10"]), said("open"), ""),
+        Case(verdict(A_NEXT, &["10", "00"]), said("broken"), ""),
+        Case(verdict(UNTIL, &["10", "01"]), said("kept"), ""),
+        Case(cycle(&a, "10"), Answer::Accepted, ""),
+        Case(cycle(&a, "1-0"), refused(2), ""),
+        Case(cycle(&a, "100"), refused(7), ""),
+        Case(cycle(&after_cycles(&rule(2, A), &["00"; 255]), "00"), Answer::Accepted, ""),
+        Case(cycle(&full, "0-"), refused(2), ""),
+        Case(cycle(&full, "0"), refused(7), ""),
+        Case(cycle(&full, "00"), refused(11), ""),
+        Case(Service::RunVerdict.of(&[&full]), said("open"), ""),
+    ]
+}
+
+/// Bytes that no calls lead to, which comes before every other refusal.
+fn wrong_runs() -> Vec<Case> {
+    let run = after_cycles(&rule(2, A), &["10"]);
+    let with = |place: usize, byte: u8| {
+        let mut run = run.clone();
+        run[place] = byte;
+        run
+    };
+    let behind_the_cycle = with(0, 2);
+    let third_signal = with(16, 1);
+    let row_on_itself = with(1028, 2);
+    let row_behind_the_last = with(1042, 1);
+    let all = [
+        behind_the_cycle,
+        third_signal,
+        row_on_itself,
+        row_behind_the_last,
+        vec![0; RUN],
+        vec![],
+        [&run[..], &[0]].concat(),
+    ];
+    let cases = |run: &Vec<u8>| {
+        [Service::RunVerdict.of(&[run]), Service::RunCycle.writing(&[b"-"], run.clone())]
+            .map(|call| Case(call, Answer::Refused(4, 0, 0), ""))
+    };
+    all.iter().flat_map(cases).collect()
 }
 
 #[cfg(test)]

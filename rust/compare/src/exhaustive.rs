@@ -1,11 +1,12 @@
-//! All small rules on all small takes, and all sheets for the smallest.
+//! All small rules on all small takes, all sheets for the smallest, and all small runs.
 
 use crate::call::Service;
 use crate::files::{rule, sheet, take, BINARY, UNARY};
+use crate::runs;
 use crate::trials::Make;
 
 /// Every verdict and made sheet for rules of up to three rows, on takes of up to three cycles with one signal and of up to two cycles
-/// with two; every check of every sheet for rules of up to two rows and takes of up to three cycles with one signal.
+/// with two; every check of every sheet for rules of up to two rows and takes of up to three cycles with one signal; small runs.
 pub fn run(make: Make) -> Result<(), String> {
     for (signals, most_cycles) in [(1, 3), (2, 2)] {
         let takes = takes(signals, most_cycles);
@@ -17,7 +18,8 @@ pub fn run(make: Make) -> Result<(), String> {
             }
         }
     }
-    all_sheets(make)
+    all_sheets(make)?;
+    runs::all_small(make)
 }
 
 fn all_sheets(make: Make) -> Result<(), String> {
@@ -35,7 +37,7 @@ fn all_sheets(make: Make) -> Result<(), String> {
 }
 
 /// All rules of one to `most` rows, as their rows.
-fn rules(signals: usize, most: usize) -> Vec<Vec<String>> {
+pub fn rules(signals: usize, most: usize) -> Vec<Vec<String>> {
     let mut longest: Vec<Vec<String>> = vec![vec![]];
     let mut all = Vec::new();
     for own in 1..=most {

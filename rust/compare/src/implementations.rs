@@ -23,6 +23,9 @@ macro_rules! ask {
             }
             Service::MakeSheet => answer($services::make_sheet(input(0), input(1), &mut output), made),
             Service::CheckSheet => answer($services::check_sheet(input(0), input(1), input(2)), Answer::from),
+            Service::RunBegin => answer($services::run_begin(input(0), &mut output), Answer::Number),
+            Service::RunCycle => answer($services::run_cycle(&mut output, input(0)), accepted),
+            Service::RunVerdict => answer($services::run_verdict(input(0)), verdict),
         };
         Outcome { answer, inputs, output }
     }};

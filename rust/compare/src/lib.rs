@@ -1,5 +1,5 @@
 //! Calls of every service, to hold implementations together on: the papers' cases, all small rules and takes, and random calls, valid and
-//! damaged. What a call leaves is compared whole: the answer, the inputs and every byte of the output.
+//! damaged; and runs, call after call. What a call leaves is compared whole: the answer, the inputs and every byte of the output.
 
 #![forbid(unsafe_code)]
 
@@ -12,6 +12,8 @@ mod files;
 mod implementations;
 mod programs;
 mod random;
+mod runs;
+mod states;
 mod tally;
 mod trials;
 

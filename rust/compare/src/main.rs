@@ -1,5 +1,5 @@
-//! Holds the second implementation to the proved library: on the papers' cases, on all small rules and takes, and on random calls of
-//! every service.
+//! Holds the second implementation to the proved library: on the papers' cases, on all small rules and takes, on runs, and on random
+//! calls of every service.
 //!
 //!     compare [--seed N] [--runs N] [--programs FOLDER]
 //!

@@ -26,6 +26,7 @@ const WORDS: &[&str] = &[
     "kept",
     "broken",
     "open",
+    "no cycle yet",
     "none",
     "root",
     "failed",
@@ -41,7 +42,7 @@ type Refusals = &'static [(u8, u8)];
 const RULE: Refusals = &[(1, 1), (2, 1), (3, 1), (4, 1), (5, 1)];
 const TAKE: Refusals = &[(1, 2), (2, 2), (3, 2), (4, 2), (6, 2)];
 const SHEET: Refusals = &[(1, 3), (2, 3), (3, 3), (4, 3)];
-const CALL: Refusals = &[(2, 0), (7, 0), (8, 0), (9, 0), (10, 0)];
+const CALL: Refusals = &[(2, 0), (4, 0), (7, 0), (8, 0), (9, 0), (10, 0), (11, 0)];
 
 /// The answers that a service can give: words, and refusals of files and calls.
 fn possible(service: Service) -> Vec<Kind> {
@@ -58,6 +59,9 @@ fn possible(service: Service) -> Vec<Kind> {
         Service::Step => (&["written"], &[RULE], &[2, 7, 9, 10]),
         Service::MakeSheet => (&["none", "written"], &[RULE, TAKE], &[7, 10]),
         Service::CheckSheet => (FINDINGS, &[RULE, TAKE, SHEET], &[7, 9]),
+        Service::RunBegin => (&["written"], &[RULE], &[10]),
+        Service::RunCycle => (&["accepted"], &[], &[2, 4, 7, 11]),
+        Service::RunVerdict => (&["kept", "broken", "open", "no cycle yet"], &[], &[4]),
     };
     let said = words.iter().map(|word| Kind::Said(word.to_string()));
     let of_files = files.concat().into_iter().map(|(number, file)| Kind::Refused(number, file));
@@ -66,9 +70,10 @@ fn possible(service: Service) -> Vec<Kind> {
 }
 
 /// The kind of an answer. What `judge` prints counts as what it says; failures behind the take's last cycle, in a later round of the
-/// loop, count apart.
+/// loop, count apart, and so do calls for the verdict on a run that has no cycle yet.
 fn kind(service: Service, outcome: &Outcome) -> Kind {
     let word = match &outcome.answer {
+        Answer::Refused(4, 0, _) if service == Service::RunVerdict && is_run(&outcome.inputs[0]) => "no cycle yet",
         Answer::Refused(number, file, _) => return Kind::Refused(*number, *file),
         Answer::Number(length) if service == Service::JudgeText => return kind_of_text(&outcome.output[..*length]),
         Answer::Accepted => "accepted",
@@ -85,6 +90,11 @@ fn kind(service: Service, outcome: &Outcome) -> Kind {
 /// The cycles of a valid take: its lines but for the first four.
 fn cycles(take: &[u8]) -> usize {
     take.iter().filter(|byte| **byte == b'\n').count() - 4
+}
+
+/// Whether bytes are a run: a cycle with a byte that is no digit is then refused for that byte.
+fn is_run(bytes: &[u8]) -> bool {
+    second::run_cycle(&mut bytes.to_vec(), b"-").is_err_and(|refusal| refusal.number == 2)
 }
 
 /// What a text of `judge` says.

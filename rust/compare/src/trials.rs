@@ -5,6 +5,7 @@ use crate::damage::damaged;
 use crate::files::{random_rule, random_sheet, random_take, Size};
 use crate::implementations::by_second;
 use crate::random::Random;
+use crate::runs::random_run;
 
 /// What is done with each call.
 pub type Make<'a> = &'a mut dyn FnMut(&Call) -> Result<(), String>;
@@ -21,7 +22,7 @@ pub fn random_calls(seed: u64, runs: u64, make: Make) -> Result<(), String> {
     (0..runs).try_for_each(|run| trial(&mut Random::new(seed.wrapping_mul(1 << 32).wrapping_add(run)), make))
 }
 
-/// One run: random files, calls of every service on them and on damaged copies, and steps.
+/// One run: random files, calls of every service on them and on damaged copies, steps, and now and then a run of the rule.
 fn trial(random: &mut Random, make: Make) -> Result<(), String> {
     let size = random_size(random);
     let files = random_files(random, size);
@@ -34,8 +35,13 @@ fn trial(random: &mut Random, make: Make) -> Result<(), String> {
         let files = damaged_files(random, &files);
         on_files(random, &files, make)?;
         make(&Service::Step.of(&[&files.rule, b"", b"", b""]))?;
+        make(&Service::RunBegin.of(&[&files.rule]))?;
     }
-    steps(random, &files.rule, size.signals, make)
+    steps(random, &files.rule, size.signals, make)?;
+    if random.once_in(4) {
+        random_run(random, &files.rule, make)?;
+    }
+    Ok(())
 }
 
 /// Mostly small, sometimes with many cycles or of any size, seldom of full size.
@@ -74,7 +80,7 @@ fn damaged_files(random: &mut Random, files: &Files) -> Files {
     Files { rule: perhaps(0, &files.rule), take: perhaps(1, &files.take), sheet: perhaps(2, &files.sheet) }
 }
 
-/// Every service but step, on three files.
+/// Every service but step and those of runs, on three files.
 fn on_files(random: &mut Random, files: &Files, make: Make) -> Result<(), String> {
     let Files { rule, take, sheet } = files;
     for service in [Service::ReadRule, Service::Bound, Service::Rows] {
@@ -95,7 +101,7 @@ fn on_files(random: &mut Random, files: &Files, make: Make) -> Result<(), String
 
 /// A call with random outputs: where something is written, one that is exact, one that is one byte short, a longer one and any
 /// shorter one.
-fn with_outputs(random: &mut Random, call: Call, make: Make) -> Result<(), String> {
+pub fn with_outputs(random: &mut Random, call: Call, make: Make) -> Result<(), String> {
     let lengths = match written(&call).map(|output| output.len()) {
         Some(length) => vec![length, length - 1, length + random.between(1, 40), random.below(length)],
         None => vec![random.below(100)],
@@ -160,7 +166,7 @@ fn with_digits_changed(random: &mut Random, sheet: &[u8]) -> Vec<u8> {
 }
 
 /// What the second implementation writes for a call, given room.
-fn written(call: &Call) -> Option<Vec<u8>> {
+pub fn written(call: &Call) -> Option<Vec<u8>> {
     let outcome = by_second(&Call { output: vec![0; citronhelm::MOST_SHEET], ..call.clone() });
     match outcome.answer {
         Answer::Number(length) => Some(outcome.output[..length].to_vec()),

@@ -6,8 +6,9 @@ use crate::monitor::Cycle;
 use crate::normal::normal_form;
 use crate::refusal::Refusal;
 use crate::rule::Rule;
+use crate::run::Run;
 use crate::sheet::{checked, made, Finding, Sheet};
-use crate::take::Take;
+use crate::take::{Take, MOST_CYCLES};
 
 /// Reads a rule file.
 pub fn read_rule(rule: &[u8]) -> Result<(), Refusal> {
@@ -110,6 +111,37 @@ pub fn check_sheet(rule: &[u8], take: &[u8], sheet: &[u8]) -> Result<Finding, Re
         return Err(Refusal::of_call(9));
     }
     Ok(checked(&rule, &take, &sheet))
+}
+
+/// Begins a run: writes its bytes; their number.
+pub fn run_begin(rule: &[u8], run: &mut [u8]) -> Result<usize, Refusal> {
+    let begun = Run { rule: Rule::read(rule)?, cycles: vec![] };
+    write(&begun.bytes(), run)
+}
+
+/// Hands the next cycle to a run.
+pub fn run_cycle(run: &mut [u8], digits: &[u8]) -> Result<(), Refusal> {
+    let mut longer = Run::read(run).ok_or(Refusal::of_call(4))?;
+    let digits: String = digits.iter().copied().map(char::from).collect();
+    if digits.chars().any(|character| digit(character).is_none()) {
+        return Err(Refusal::of_call(2));
+    }
+    if digits.len() != longer.rule.signals {
+        return Err(Refusal::of_call(7));
+    }
+    if longer.cycles.len() == MOST_CYCLES {
+        return Err(Refusal::of_call(11));
+    }
+    longer.cycles.push(digits);
+    run.copy_from_slice(&longer.bytes());
+    Ok(())
+}
+
+/// The verdict on the cycles of a run so far: that on its rule file and its take file. With no cycle the take file is refused for it.
+pub fn run_verdict(run: &[u8]) -> Result<Verdict, Refusal> {
+    let run = Run::read(run).ok_or(Refusal::of_call(4))?;
+    let verdict = judge_open(run.rule.to_string().as_bytes(), run.take().as_bytes());
+    verdict.map_err(|refusal| Refusal::of_call(refusal.number))
 }
 
 /// Puts bytes at the front of the output; their number.

@@ -2,12 +2,14 @@
 use crate::inputs::{Inputs, Size};
 use crate::services::{Call, Implementation, Service};
 
-/// The answer and what was written, which the answer gives the length of where a service writes.
+/// The answer and what was written, which the answer gives the length of where a service writes; or the run, which a refused cycle
+/// leaves as it was.
 fn outcome(by: Implementation, call: Call, given: &Inputs) -> (u64, Vec<u8>) {
     let mut out = vec![0; citronhelm::MOST_SHEET];
     let answer = by.call(call, given, &mut out);
-    let writes = matches!(call.service, Service::Normal | Service::Step | Service::MakeSheet) && answer >> 63 == 0;
-    out.truncate(if writes { answer as usize } else { 0 });
+    let writes = matches!(call.service, Service::Normal | Service::Step | Service::MakeSheet | Service::RunBegin) && answer >> 63 == 0;
+    let length = given.run(call.service).map_or(0, <[u8]>::len);
+    out.truncate(if writes { answer as usize } else { length });
     (answer, out)
 }
 
@@ -33,6 +35,13 @@ fn damaged(file: &[u8], step: usize) -> Vec<Vec<u8>> {
     files
 }
 
+/// The run with a byte changed in two ways, at every third place and among the counts, its last four bytes. Its length stays.
+fn changed(run: &[u8]) -> Vec<Vec<u8>> {
+    let places = (0..run.len()).filter(|i| i % 3 == 0 || i + 4 >= run.len());
+    let change = |i: usize, by: u8| run.iter().enumerate().map(|(j, byte)| if i == j { byte ^ by } else { *byte }).collect();
+    places.flat_map(|i| [change(i, 1), change(i, 128)]).collect()
+}
+
 /// The inputs with one of the files damaged; the place names it.
 fn with_damage(size: Size) -> Vec<Inputs> {
     let given = Inputs::new(size);
@@ -51,6 +60,8 @@ fn with_damage(size: Size) -> Vec<Inputs> {
     put(damaged(&given.pendings, 5), |inputs| &mut inputs.pendings);
     put(damaged(&given.activators, 5), |inputs| &mut inputs.activators);
     put(damaged(&given.signals, 5), |inputs| &mut inputs.signals);
+    put(changed(&given.runs[1]), |inputs| &mut inputs.runs[1]);
+    put(changed(&given.whole_run), |inputs| &mut inputs.whole_run);
     all
 }
 

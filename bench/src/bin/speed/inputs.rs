@@ -4,7 +4,8 @@
 //! reached under both signs, so that 64 rows give the 125 of the largest normal form. The loop begins in the middle. Nothing ends
 //! early: the last rows ask for something again and again, which the loop brings and no open take settles, so that there both
 //! normal forms are gone through; and 70 of the 125 rows are true at one cycle of the looped take and false at another.
-use plain::{checking, making, monitors, rule};
+use crate::services::Service;
+use plain::{checking, making, monitors, rule, run};
 
 const SIGNALS: usize = 32;
 const WORDS: [&str; 9] = ["and", "next", "release", "or", "weak", "ever", "srelease", "always", "until"];
@@ -20,6 +21,7 @@ pub struct Size {
 }
 
 /// What the services are given. `other` is the rule with 31 signals: it is read to its end, and then refused beside a take with 32.
+/// `runs` are the states before the first cycle, the middle one and the last, `whole_run` that after all.
 #[derive(Clone)]
 pub struct Inputs {
     pub rule: Vec<u8>,
@@ -30,6 +32,8 @@ pub struct Inputs {
     pub pendings: Vec<u8>,
     pub activators: Vec<u8>,
     pub signals: Vec<u8>,
+    pub runs: [Vec<u8>; 3],
+    pub whole_run: Vec<u8>,
 }
 
 impl Inputs {
@@ -41,10 +45,30 @@ impl Inputs {
         let sheet = making::make_files(&rule, &looped).unwrap().expect("the rule holds").into_bytes();
         let found = checking::check_files(&rule, &looped, &sheet);
         assert_eq!(found, Ok(checking::Finding::Passes));
-        let (pendings, activators) = run(&rule, &cycles, &sheet);
+        let (pendings, activators) = stepped(&rule, &cycles, &sheet);
         let open = take_text(&cycles, "none");
-        Inputs { rule, other, looped, open, sheet, pendings, activators, signals: cycles[STEP].clone().into_bytes() }
+        let runs = [0, size.cycles / 2, size.cycles - 1].map(|before| run_after(&rule, &cycles[..before]));
+        let (whole_run, signals) = (run_after(&rule, &cycles), cycles[STEP].clone().into_bytes());
+        Inputs { rule, other, looped, open, sheet, pendings, activators, signals, runs, whole_run }
     }
+
+    /// The run that a service hands a cycle to.
+    pub fn run(&self, service: Service) -> Option<&[u8]> {
+        let [first, middle, last] = &self.runs;
+        match service {
+            Service::FirstCycle => Some(first),
+            Service::MiddleCycle => Some(middle),
+            Service::LastCycle => Some(last),
+            _ => None,
+        }
+    }
+}
+
+fn run_after(rule: &[u8], cycles: &[String]) -> Vec<u8> {
+    let mut state = vec![0; run::RUN];
+    run::run_begin(rule, &mut state).unwrap();
+    cycles.iter().for_each(|digits| run::run_cycle(&mut state, digits.as_bytes()).unwrap());
+    state
 }
 
 fn rule_rows(rows: usize) -> Vec<String> {
@@ -101,7 +125,7 @@ fn take_text(cycles: &[String], start: &str) -> Vec<u8> {
 }
 
 /// The pendings before the measured step and the activators at it.
-fn run(rule: &[u8], cycles: &[String], sheet: &[u8]) -> (Vec<u8>, Vec<u8>) {
+fn stepped(rule: &[u8], cycles: &[String], sheet: &[u8]) -> (Vec<u8>, Vec<u8>) {
     let lines: Vec<&[u8]> = sheet.split(|&b| b == b'\n').filter(|line| line.starts_with(b"z")).collect();
     let column = |i: usize| -> Vec<u8> { lines.iter().map(|line| line[line.len() - cycles.len() + i]).collect() };
     let mut pendings = vec![b'0'; lines.len()];

@@ -1,6 +1,6 @@
 //! The services, and each implementation called alike: the answer as one number, as the library gives it in C.
 use crate::inputs::Inputs;
-use plain::{checking, judging, making, monitors, normal, reading, rule, sheets, take};
+use plain::{checking, judging, making, monitors, normal, reading, rule, run, sheets, take};
 
 #[derive(Clone, Copy, Debug, PartialEq)]
 pub enum Service {
@@ -13,11 +13,31 @@ pub enum Service {
     Step,
     MakeSheet,
     CheckSheet,
+    RunBegin,
+    FirstCycle,
+    MiddleCycle,
+    LastCycle,
+    RunVerdict,
 }
 use Service::*;
 
 impl Service {
-    pub const ALL: [Service; 9] = [ReadRule, ReadTake, ReadSheet, Normal, JudgeLooped, JudgeOpen, Step, MakeSheet, CheckSheet];
+    pub const ALL: [Service; 14] = [
+        ReadRule,
+        ReadTake,
+        ReadSheet,
+        Normal,
+        JudgeLooped,
+        JudgeOpen,
+        Step,
+        MakeSheet,
+        CheckSheet,
+        RunBegin,
+        FirstCycle,
+        MiddleCycle,
+        LastCycle,
+        RunVerdict,
+    ];
 
     pub fn name(self) -> &'static str {
         match self {
@@ -30,25 +50,32 @@ impl Service {
             Step => "step",
             MakeSheet => "make a sheet",
             CheckSheet => "check a sheet",
+            RunBegin => "begin a run",
+            FirstCycle => "take a cycle, the first",
+            MiddleCycle => "take a cycle, half before it",
+            LastCycle => "take a cycle, the last",
+            RunVerdict => "verdict of a run",
         }
     }
 
-    /// Whether the cost may depend on the rule's rows, and on the take's cycles.
+    /// Whether the cost may depend on the rule's rows, and on the take's cycles. A cycle's does not depend on those before it; that this is
+    /// so is to be seen.
     pub fn grows_in(self) -> (bool, bool) {
-        (self != ReadTake, !matches!(self, ReadRule | Normal | Step))
+        (self != ReadTake, !matches!(self, ReadRule | Normal | Step | RunBegin | FirstCycle))
     }
 
     /// The call that reads what this one reads and does no more.
     pub fn reading(self) -> Option<Call> {
         match self {
-            ReadRule | ReadTake | ReadSheet => None,
-            Normal | Step => Some(Call { service: ReadRule, only_read: false }),
+            ReadRule | ReadTake | ReadSheet | FirstCycle | MiddleCycle | LastCycle | RunVerdict => None,
+            Normal | Step | RunBegin => Some(Call { service: ReadRule, only_read: false }),
             JudgeLooped | JudgeOpen | MakeSheet | CheckSheet => Some(Call { service: self, only_read: true }),
         }
     }
 }
 
-/// A call of a service. With `only_read` rule and take differ in `signals`: all files are read to their ends, and the call is refused.
+/// A call of a service. With `only_read` rule and take differ in `signals`: all files are read to their ends, and the call is refused. A
+/// run has its rule in it.
 #[derive(Clone, Copy, Debug, PartialEq)]
 pub struct Call {
     pub service: Service,
@@ -71,9 +98,13 @@ impl Implementation {
         self != Implementation::BitParallel || matches!(service, JudgeLooped | JudgeOpen)
     }
 
-    /// Makes the call. What is written stands at the front of `out`, and the answer is its length.
+    /// Makes the call. What is written stands at the front of `out`, and the answer is its length; or the run with a cycle more, which is
+    /// copied there first, so that every call finds it as it was.
     pub fn call(self, call: Call, given: &Inputs, out: &mut Vec<u8>) -> u64 {
         let rule = if call.only_read { &given.other } else { &given.rule };
+        if let Some(run) = given.run(call.service) {
+            out[..run.len()].copy_from_slice(run);
+        }
         match self {
             Implementation::Proved => proved(call.service, rule, given, out),
             Implementation::Plain => plain(call.service, rule, given, out),
@@ -113,11 +144,14 @@ fn proved(service: Service, rule: &[u8], given: &Inputs, out: &mut [u8]) -> u64 
         Step => c::step(rule, &given.pendings, &given.activators, &given.signals, out).map(length),
         MakeSheet => c::make_sheet(rule, &given.looped, out).map(|made| made.map_or(0, length)),
         CheckSheet => c::check_sheet(rule, &given.looped, &given.sheet).map(finding),
+        RunBegin => c::run_begin(rule, out).map(length),
+        FirstCycle | MiddleCycle | LastCycle => c::run_cycle(&mut out[..given.whole_run.len()], &given.signals).map(read),
+        RunVerdict => c::run_verdict(&given.whole_run).map(verdict),
     };
     answer.unwrap_or_else(|r| refused(r.reason.number().into(), r.file.map_or(0, c::File::number).into(), r.line.into()))
 }
 
-/// The plain-Rust version makes its outputs, and they take the place of `out`; a step it writes as the others do.
+/// The plain-Rust version makes its outputs, and they take the place of `out`; a step and a run it writes as the others do.
 fn plain(service: Service, rule: &[u8], given: &Inputs, out: &mut Vec<u8>) -> u64 {
     let of = |file: u32| move |fault: reading::Fault| fault.of(file);
     let verdict = |verdict: judging::Verdict| verdict as u64 + 1;
@@ -142,6 +176,9 @@ fn plain(service: Service, rule: &[u8], given: &Inputs, out: &mut Vec<u8>) -> u6
         Step => monitors::step(rule, &given.pendings, &given.activators, &given.signals, out).map(|length| length as u64),
         MakeSheet => making::make_files(rule, &given.looped).map(|made| made.map_or(0, |text| put(text.into_bytes()))),
         CheckSheet => checking::check_files(rule, &given.looped, &given.sheet).map(finding),
+        RunBegin => run::run_begin(rule, out).map(|length| length as u64),
+        FirstCycle | MiddleCycle | LastCycle => run::run_cycle(&mut out[..given.whole_run.len()], &given.signals).map(|()| 0),
+        RunVerdict => run::run_verdict(&given.whole_run).map(verdict),
     };
     answer.unwrap_or_else(|r| refused(r.reason.into(), r.file.into(), r.line as u64))
 }
@@ -172,6 +209,9 @@ fn second(service: Service, rule: &[u8], given: &Inputs, out: &mut [u8]) -> u64 
         Step => second::step(rule, &given.pendings, &given.activators, &given.signals, out).map(length),
         MakeSheet => second::make_sheet(rule, &given.looped, out).map(|made| made.map_or(0, length)),
         CheckSheet => second::check_sheet(rule, &given.looped, &given.sheet).map(finding),
+        RunBegin => second::run_begin(rule, out).map(length),
+        FirstCycle | MiddleCycle | LastCycle => second::run_cycle(&mut out[..given.whole_run.len()], &given.signals).map(read),
+        RunVerdict => second::run_verdict(&given.whole_run).map(by_number),
     };
     answer.unwrap_or_else(turned_back)
 }
