@@ -1,3 +1,4 @@
 pub mod Lengths
 pub mod OneAnswer
+pub mod Runs
 pub mod Told

@@ -20,7 +20,9 @@ use Rattle.sheet_maker.specs.declared.MakerAnswer.{MakerAnswer}
 use Rattle.sheet_maker.specs.Answer.{MakesOn}
 use Rattle.checking.specs.declared.finding.CheckAnswer.{CheckAnswer}
 use Rattle.checking.specs.Answer.{CheckAnswers, metOutcome}
-use Rattle.answer_code.specs.Code.{bytesCode, checkCode, judgeCode, makerCode, refusalCode}
+use Rattle.run.specs.Calls.{GivesVerdict, TakesCycle}
+use Rattle.run_state.specs.State.{stateOf}
+use Rattle.answer_code.specs.Code.{bytesCode, checkCode, judgeCode, makerCode, outcomeCode, refusalCode}
 
 -- a refused call: its code, and "Output buffers are then untouched"
 abbrev pub Turned : List ℕ → List ℕ → ℕ → Refusal → Type 0
@@ -53,3 +55,15 @@ pub record PrintedAs (rule take before after : List ℕ) (r : ℕ) : Type 0 wher
   pub answer : Bytes
   pub prints : TheOnlyPair (Prints rule take before) after answer
   pub coded : r ≡ bytesCode answer
+
+-- what a run is told of a cycle, and its bytes then
+pub record CycleAs (before digits after : List ℕ) (r : ℕ) : Type 0 where
+  pub outcome : Outcome
+  pub takes : TakesCycle stateOf before digits outcome after
+  pub coded : r ≡ outcomeCode outcome
+
+-- the verdict on a run, whose bytes stay
+pub record VerdictAs (state : List ℕ) (r : ℕ) : Type 0 where
+  pub answer : Answer
+  pub gives : GivesVerdict stateOf state answer state
+  pub coded : r ≡ judgeCode answer

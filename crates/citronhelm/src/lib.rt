@@ -1,5 +1,7 @@
 // The services for programs in C and Rust (include/citronhelm.h): files in as bytes, an answer out as one number, and output into a
-// lent buffer. No state, nothing asked of the caller. A slice passes as a pointer and a length.
+// lent buffer. No state but a run's, which is bytes that the caller keeps; nothing asked of the caller. A slice passes as a pointer and a
+// length.
+ghost use mathlib.Core.List.{[]};
 ghost use mathlib.Core.Path.{_≡_};
 ghost use Rattle.text.specs.Result.{outcomeOf};
 ghost use Rattle.rule_file.specs.Rule.{parseRule};
@@ -13,7 +15,8 @@ ghost use Rattle.meeting.specs.declared.Wanted.the-variants.{Either, Looped, Un
 ghost use Rattle.step.specs.Step.{formAnswer, formLeft};
 ghost use Rattle.answer_code.specs.Code.{bytesCode, outcomeCode, refusalCode, signOf};
 ghost use Rattle.rule_and_take.specs.File.{OnFile, OnPair};
-ghost use Rattle.citronhelm.specs.Service.{CheckedAs, JudgedAs, MadeAs, PrintedAs, Turned, WrittenAs};
+ghost use Rattle.run_state.specs.State.{stateOf};
+ghost use Rattle.citronhelm.specs.Service.{CheckedAs, CycleAs, JudgedAs, MadeAs, PrintedAs, Turned, VerdictAs, WrittenAs};
 use meeting::Wanted;
 use normal_form::sign::Sign;
 use tables::refusal::Outcome;
@@ -222,4 +225,27 @@ pub extern "C" fn citronhelm_check_sheet(rule: &[u8], take: &[u8], sheet: &[u8])
             }
         }
     }
+}
+
+// A run begins with a rule file; it takes a cycle, as its digits; the open verdict on the cycles so far.
+#[no_mangle]
+pub extern "C" fn citronhelm_run_begin(rule: &[u8], run: &mut [u8]) -> u64
+    ensures answer { λ r. ⌜ OnFile 1 (parseRule (now (rule .entry))) (Turned (now (run .entry)) (now (run .exit)) r)
+        (λ f. WrittenAs (stateOf f []) (now (run .entry)) (now (run .exit)) r) ⌝ }
+{
+    answer_code::bytes_code(run_state::begin(rule, run))
+}
+
+#[no_mangle]
+pub extern "C" fn citronhelm_run_cycle(run: &mut [u8], digits: &[u8]) -> u64
+    ensures answer { λ r. ⌜ CycleAs (now (run .entry)) (now (digits .entry)) (now (run .exit)) r ⌝ }
+{
+    answer_code::outcome_code(run_state::take_cycle(run, digits))
+}
+
+#[no_mangle]
+pub extern "C" fn citronhelm_run_verdict(run: &[u8]) -> u64
+    ensures answer { λ r. ⌜ VerdictAs (now (run .entry)) r ⌝ }
+{
+    answer_code::judge_code(run_state::verdict(run))
 }

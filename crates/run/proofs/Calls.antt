@@ -95,6 +95,9 @@ module _ {S : Type 0} (stateOf : Formula → List (List Bool) → S) where
     pub run-behind : {t : S} (calls : List Call) → Called stateOf (stateOf f []) calls t → t ≡ stateOf f (acceptedCycles f calls)
     run-behind calls x = at-behind f [] calls begun-at x .is
 
+    pub behind-led : {t : S} (calls : List Call) → Called stateOf (stateOf f []) calls t → Led f (acceptedCycles f calls)
+    behind-led calls x = at-behind f [] calls begun-at x .led
+
     -- EACH VERDICT IS THE ONE FOR THE TAKE FILE OF THE CYCLES ACCEPTED SO FAR, whatever calls come before and behind
     pub every-verdict : {t : S} (before behind : List Call) (a : Answer) → Called stateOf (stateOf f []) (before ++ (verdict a ∷ behind)) t → VerdictSoFar f (acceptedCycles f before) a
     every-verdict before behind a x =
