@@ -2,3 +2,4 @@ pub mod Led
 pub mod TakeFile
 pub mod Services
 pub mod Calls
+pub mod Verdicts
