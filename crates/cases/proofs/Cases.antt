@@ -68,6 +68,8 @@ computed =
     also record { signals = refl; rows = refl; cycles = refl; found = refl }
     also record { signals = refl; rows = refl; cycles = refl; found = refl }
     also record { signals = refl; rows = refl; cycles = refl; found = refl }
+    also (refl, refl, (refl, refl, tt))
+    also (refl, refl, (refl, refl, (refl, refl, tt)))
     also none
 
 pub all-cases : Each Says cases

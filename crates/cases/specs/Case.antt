@@ -1,13 +1,17 @@
 -- The kinds of cases, and what a case says: the answers are those of the services' contracts. Assumes nothing.
 use Prim.Native.Nat.{ℕ}
 use Prim.Native.String.{String}
+use mathlib.Core.Bool.{Bool}
 use mathlib.Core.Path.{_≡_}
 use mathlib.Core.List.{List, [], _∷_, _++_}
+use lib.ListN.{length}
 use Rattle.tables.specs.Bytes.{bytes}
 use Rattle.tables.specs.declared.refusal.Outcome.{Outcome}
+use Rattle.tables.specs.declared.refusal.Outcome.the-variants.{Accepted}
 use Rattle.tables.specs.declared.row.Formula.{Formula}
 use Rattle.tables.specs.declared.trace.Activation.{Activation}
 use Rattle.tables.specs.declared.trace.Trace.{Trace}
+use Rattle.text.specs.Digits.{digitsIn}
 use Rattle.text.specs.Result.{Result}
 use Rattle.text.specs.Result.Result.{accepted, refused}
 use Rattle.rule_file.specs.Rule.{parseRule}
@@ -25,6 +29,8 @@ use Rattle.meeting.specs.Meeting.{pairOutcome}
 use Rattle.meeting.specs.declared.Wanted.the-variants.{Looped, Unlooped}
 use Rattle.judging.specs.Answer.{Answers}
 use Rattle.judge_text.specs.Answer.{IsText}
+use Rattle.run.specs.Cycles.{cycleOutcome}
+use Rattle.run.specs.Verdict.{VerdictSoFar}
 use Rattle.sheet_maker.specs.Answer.{answerOf, Makes}
 use Rattle.checking.specs.declared.finding.Finding.{Finding}
 use Rattle.checking.specs.declared.finding.CheckAnswer.the-variants.{Checked}
@@ -38,6 +44,11 @@ File = List String
 abbrev pub fileBytes : File → List ℕ
 fileBytes [] = []
 fileBytes (l ∷ ls) = bytes l ++ (10 ∷ fileBytes ls)
+
+-- a cycle, as its digits, and the verdict when it has been taken
+pub record Watched : Type 0 where
+  pub digits : String
+  pub verdict : Verdict
 
 -- the first file is that of a rule, and the second that of a take where there is one
 pub data Case : Type 0 where
@@ -53,6 +64,8 @@ pub data Case : Type 0 where
   makes : File → File → File → Case
   -- what a check of a sheet finds
   checks : File → File → File → Finding → Case
+  -- a run: its cycles, each with the verdict behind it
+  runs : File → List Watched → Case
 
 -- accepted, and what was read is so
 abbrev pub AcceptedAs : {A : Type 0} → (A → Type 0) → Result A → Type 0
@@ -79,6 +92,13 @@ Writes f s out = (buf : List ℕ) → (normalAnswer f s buf ≡ writtenAnswer ou
 abbrev pub Answered : (Formula → Trace → Outcome) → File → File → Answer → Type 0
 Answered outcome rule take r = OnRule rule (λ f. OnTake take (λ t. Answers (outcome f t) f t r))
 
+-- behind these cycles a run takes the next, gets the verdict, and goes on
+abbrev pub Runs : Formula → List (List Bool) → List Watched → Type 0
+Runs f cs [] = Unit {0}
+Runs f cs (w ∷ ws) =
+    let more : List (List Bool) = cs ++ (digitsIn (bytes (w .digits)) ∷ []) in
+    (cycleOutcome (f .signals) (length cs) (bytes (w .digits)) ≡ Accepted) × VerdictSoFar f more (Judged (w .verdict)) × Runs f more ws
+
 -- of `prints` too: no other text is the text of `judge` for the two files (proofs, `one-text`)
 abbrev pub Says : Case → Type 0
 Says (normal-form rule s out) = OnRule rule (λ f. Writes f s (fileBytes out))
@@ -93,6 +113,7 @@ Says (makes rule take sheet) =
 Says (checks rule take sheet x) =
     OnRule rule
     (λ f. OnTake take (λ t. OnSheet sheet (λ a. CheckAnswers (checkOutcome f t a) f t a (Checked x))))
+Says (runs rule watched) = OnRule rule (λ f. Runs f [] watched)
 
 -- every element is so
 pub data Each {A : Type 0} (P : A → Type 0) : List A → Type 0 where

@@ -1,12 +1,14 @@
 -- The cases that 01 marks P ("Rules and takes to try"), one row each, and some that it does not: two on `next`, that the sheet made for
--- rule A passes, and such as name each word once: what `judge` prints for each verdict and for a refusal in either file, and the normal
--- forms of a rule with all fourteen words. Assumes nothing.
+-- rule A passes, two runs (02, request 1), and such as name each word once: what `judge` prints for each verdict and for a refusal in either
+-- file, and the normal forms of a rule with all fourteen words. Assumes nothing.
+use Prim.Native.String.{String}
 use mathlib.Core.List.{List, [], _∷_}
 use Rattle.normal_form.specs.declared.sign.Sign.the-variants.{Plain, Negated}
+use Rattle.judging.specs.declared.verdict.Verdict.{Verdict}
 use Rattle.judging.specs.declared.verdict.Verdict.the-variants.{Holds, Breaks, Kept, Broken, Open}
 use Rattle.checking.specs.declared.finding.Finding.the-variants.{Failed, Starved, Passes}
-use Rattle.cases.specs.Case.{File, Case}
-use Rattle.cases.specs.Case.Case.{normal-form, bound, looped, opened, prints, makes, checks}
+use Rattle.cases.specs.Case.{File, Case, Watched}
+use Rattle.cases.specs.Case.Case.{normal-form, bound, looped, opened, prints, makes, checks, runs}
 
 abbrev pub ruleA : File
 ruleA =
@@ -192,6 +194,10 @@ sheetA-z3 = "format=1" ∷ "rows=5" ∷ "cycles=2" ∷ "z1=01" ∷ "z2=01" ∷ "
 abbrev pub sheetA-z2 : File
 sheetA-z2 = "format=1" ∷ "rows=5" ∷ "cycles=2" ∷ "z1=01" ∷ "z2=00" ∷ "z3=11" ∷ "z4=11" ∷ "z5=11" ∷ []
 
+-- a cycle of a run, and the verdict behind it
+abbrev behind : String → Verdict → Watched
+behind digits verdict = record { digits = digits; verdict = verdict }
+
 abbrev pub cases : List Case
 cases =
     -- "Rule A: ..; bound 293. Its normal form, whole (P)"
@@ -229,4 +235,7 @@ cases =
     makes ruleA loop0-10-01 sheetA ∷
     checks ruleA loop0-10-01 sheetA Passes ∷
     checks ruleA loop0-10-01 sheetA-z3 (Failed 4 0) ∷
-    checks ruleA loop0-10-01 sheetA-z2 (Starved 3) ∷ []
+    checks ruleA loop0-10-01 sheetA-z2 (Starved 3) ∷
+    -- runs, with the verdicts of the open takes above as they go
+    runs ruleAlwaysNext (behind "10" Open ∷ behind "00" Broken ∷ []) ∷
+    runs ruleUntil (behind "10" Open ∷ behind "10" Open ∷ behind "01" Kept ∷ []) ∷ []

@@ -72,7 +72,7 @@ after-refused : (signals : ℕ) (cs : List (List Bool)) (digits : List ℕ) (why
 unfolding cyclesAfter
 after-refused signals cs digits why e = ap (λ o. onOutcome o (λ w. cs) (cs ++ (digitsIn digits ∷ []))) e
 
-after-accepted : (signals : ℕ) (cs : List (List Bool)) (digits : List ℕ) → cycleOutcome signals (length cs) digits ≡ Accepted → cyclesAfter signals cs digits ≡ cs ++ (digitsIn digits ∷ [])
+pub after-accepted : (signals : ℕ) (cs : List (List Bool)) (digits : List ℕ) → cycleOutcome signals (length cs) digits ≡ Accepted → cyclesAfter signals cs digits ≡ cs ++ (digitsIn digits ∷ [])
 unfolding cyclesAfter
 after-accepted signals cs digits e = ap (λ o. onOutcome o (λ w. cs) (cs ++ (digitsIn digits ∷ []))) e
 
