@@ -3,3 +3,4 @@ pub mod TakeFile
 pub mod Services
 pub mod Calls
 pub mod Verdicts
+pub mod Witness

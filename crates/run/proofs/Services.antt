@@ -68,7 +68,7 @@ module _ (signals taken : ℕ) (digits : List ℕ) where
         all-right h = passes (numbered 11) (lt-ltb taken 256 h) ∙ from-room
 
 -- ---- the cycles behind a refused call, and behind an accepted one
-after-refused : (signals : ℕ) (cs : List (List Bool)) (digits : List ℕ) (why : Refusal) → cycleOutcome signals (length cs) digits ≡ Refused why → cyclesAfter signals cs digits ≡ cs
+pub after-refused : (signals : ℕ) (cs : List (List Bool)) (digits : List ℕ) (why : Refusal) → cycleOutcome signals (length cs) digits ≡ Refused why → cyclesAfter signals cs digits ≡ cs
 unfolding cyclesAfter
 after-refused signals cs digits why e = ap (λ o. onOutcome o (λ w. cs) (cs ++ (digitsIn digits ∷ []))) e
 

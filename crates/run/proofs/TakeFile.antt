@@ -29,14 +29,15 @@ use Rattle.run.proofs.Led.{Whole, led-valid, led-whole}
 abbrev pub traceSoFar : Formula → List (List Bool) → Trace
 traceSoFar f cs = traceOf (f .signals) (length cs) Open cs
 
+-- it holds the run's cycles
+pub same-cycles : (f : Formula) (cs : List (List Bool)) → Led f cs → cyclesOf (traceSoFar f cs) ≡ cs
+same-cycles f cs led =
+    let w = led-whole f cs led in
+    cycles-of (f .signals) (length cs) Open cs (led-valid f cs led .in-range .most-signals) (w .most) refl (w .widths)
+
 module _ (f : Formula) (cs : List (List Bool)) (led : Led f cs) (some : 1 ≤ length cs) where
   fine : InRange f
   fine = led-valid f cs led .in-range
-
-  same-cycles : cyclesOf (traceSoFar f cs) ≡ cs
-  same-cycles =
-      let w = led-whole f cs led in
-      cycles-of (f .signals) (length cs) Open cs (fine .most-signals) (w .most) refl (w .widths)
 
   pub trace-range : TraceInRange (traceSoFar f cs)
   trace-range =
@@ -49,12 +50,12 @@ module _ (f : Formula) (cs : List (List Bool)) (led : Led f cs) (some : 1 ≤ le
       }
 
   trace-valid : Valid (traceSoFar f cs)
-  trace-valid = record { range = trace-range; unused = ap lanesOf (sym same-cycles) }
+  trace-valid = record { range = trace-range; unused = ap lanesOf (sym (same-cycles f cs led)) }
 
   -- its written form is the take file of the cycles
   file-written : writtenTake (traceSoFar f cs) ≡ takeFile (f .signals) cs
   unfolding writtenTake takeFile
-  file-written = rw same-cycles
+  file-written = rw (same-cycles f cs led)
 
   -- THE TAKE FILE OF THE CYCLES SO FAR IS READ, AS THEIR TRACE
   pub file-read-back : parseTake (takeFile (f .signals) cs) ≡ accepted (traceSoFar f cs)

@@ -66,7 +66,7 @@ module _ (run : Run) {bytes : List ℕ} (e : bytes ≡ runBytes run) where
   pub row-bytes : (k : ℕ) → k < 64 → (j : ℕ) → j < 3 → getD bytes (1024 + 3 * k + j) 0 ≡ rowByte (rowOf run k) j
   row-bytes k h j l = byte-at run (1024 + 3 * k + j) e (omega arith) ∙ byte-row run k j h l
 
-  tail-bytes : (j : ℕ) → j < 4 → getD bytes (1216 + j) 0 ≡ tailByte run j
+  pub tail-bytes : (j : ℕ) → j < 4 → getD bytes (1216 + j) 0 ≡ tailByte run j
   tail-bytes j l = byte-at run (1216 + j) e (omega arith) ∙ byte-tail run j
 
   pub run-again : {words : List ℕ} {places : List RowPlace} {cycles : ℕ} → words ≡ run .words → places ≡ run .formula .places → cycles ≡ getD bytes 1218 0 + 256 * getD bytes 1219 0

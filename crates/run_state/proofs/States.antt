@@ -24,9 +24,10 @@ use Rattle.run.specs.Cycles.{Led}
 use Rattle.run.specs.Run.{InState, LedTo, runOf}
 use Rattle.run.specs.Verdict.{outOfRange}
 use Rattle.run.proofs.Led.{led-valid}
+use Rattle.run.proofs.Witness.{run-once}
 use Rattle.run_bytes.specs.Bytes.{Fits, runBytes}
 use Rattle.run_bytes.specs.declared.Held.{Held}
-use Rattle.run_bytes.proofs.Laws.{run-length}
+use Rattle.run_bytes.proofs.Laws.{bytes-once, run-length}
 use Rattle.run_state.specs.State.{stateOf}
 
 -- the runs that calls lead to have bytes
@@ -37,6 +38,10 @@ led-fits f cs l =
       words = words-length cs;
       word = words-below cs;
     }
+
+-- A RUN IS KNOWN BY ITS BYTES: no two rules, and no two lists of cycles, have the same
+pub state-once : (f g : Formula) (cs ds : List (List Bool)) → Led f cs → Led g ds → stateOf f cs ≡ stateOf g ds → (f ≡ g) × (cs ≡ ds)
+state-once f g cs ds l m e = run-once f g cs ds l m (bytes-once (runOf f cs) (runOf g ds) (led-fits f cs l) (led-fits g ds m) e)
 
 -- what is put over all of a buffer is all that it has then
 wrote-all : {before text after : List ℕ} {n : ℕ} → length text ≡ length before → Wrote before 0 text after n → after ≡ text
