@@ -68,9 +68,9 @@ extern "C" {
 #define CITRONHELM_STACK_STEP 4096u
 #define CITRONHELM_STACK_MAKE_SHEET 18432u
 #define CITRONHELM_STACK_CHECK_SHEET 25600u
-#define CITRONHELM_STACK_RUN_BEGIN 24576u
-#define CITRONHELM_STACK_RUN_CYCLE 24576u
-#define CITRONHELM_STACK_RUN_VERDICT 24576u
+#define CITRONHELM_STACK_RUN_BEGIN 5120u
+#define CITRONHELM_STACK_RUN_CYCLE 10240u
+#define CITRONHELM_STACK_RUN_VERDICT 17408u
 
 /* Whether an answer is a refusal; its number, file and line. */
 static inline int citronhelm_refused(uint64_t answer) { return (int)(answer >> 63); }

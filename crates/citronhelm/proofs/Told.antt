@@ -1,9 +1,9 @@
 -- A length that is answered is never taken for a refusal: it is at most what include/citronhelm.h says, which lies far below the highest
 -- bit. Assumes nothing.
 use Prim.Native.Nat.{ℕ, _+_, _*_, _≤_, _<_}
-use mathlib.Core.Path.{_≡_, sym}
+use mathlib.Core.Path.{_≡_, sym, _∙_}
 use mathlib.Core.Bool.{Bool, true, false}
-use mathlib.Core.List.{List}
+use mathlib.Core.List.{List, []}
 use native.Mathlib.Omega.{arith}
 use lib.Dec.{leb}
 use lib.ListN.{length}
@@ -33,6 +33,8 @@ use Rattle.judge_text.specs.Answer.{Prints}
 use Rattle.step.specs.Step.{formAnswer, formOutcome}
 use Rattle.sheet_maker.specs.declared.MakerAnswer.the-variants.{Written}
 use Rattle.sheet_maker.specs.Answer.{Answers, Answers.none, Answers.sheet, MakesOn, answerOf}
+use Rattle.run_state.specs.State.{stateOf}
+use Rattle.citronhelm.proofs.Runs.{state-length}
 use Rattle.citronhelm.proofs.Lengths.{normal-enough, sheet-enough, sheet-some, step-enough, text-enough}
 
 -- NO LENGTH IS TAKEN FOR A REFUSAL: the highest bit of a length of at most 33,567 is not set
@@ -66,6 +68,10 @@ module _ (rule : List ℕ) (f : Formula) (read : parseRule rule ≡ accepted f) 
       by : (o : Outcome) → onOutcome o BytesRefused (Count (3 * normalForm f Plain .rows)) ≡ Count n → n ≤ 384
       by Accepted q = let same : 3 * normalForm f Plain .rows ≡ n = cc in omega (arith, step-enough f Plain fine)
       by (Refused why) q = clash (cc)
+
+  -- a run that begins
+  pub begin-told : (buf : List ℕ) (n : ℕ) → writtenAnswer (stateOf f []) buf ≡ Count n → n ≡ 1220
+  begin-told buf n q = written-length (stateOf f []) buf n q ∙ state-length f []
 
   -- a sheet, which has some bytes, so that it is not taken for `none` either
   module _ (take : List ℕ) (t : Trace) (taken : parseTake take ≡ accepted t) (before after : List ℕ) (n : ℕ) where
