@@ -159,7 +159,7 @@ fn places_in(bytes: &[u8]) -> [RowPlace; 64]
     places
 }
 
-fn cycles_from(low: u8, high: u8) -> u16
+fn number_in(low: u8, high: u8) -> u16
     ensures cycles { λ r. ⌜ r ≡ low + 256 * high ⌝ }
 {
     low as u16 + 256 * (high as u16)
@@ -175,12 +175,12 @@ fn decode(bytes: &[u8]) -> Run
     let formula = Formula {
         signals: bytes[1216],
         rows: bytes[1217],
-        places: places,
+        places,
     };
     Run {
-        formula: formula,
-        cycles: cycles_from(bytes[1218], bytes[1219]),
-        words: words,
+        formula,
+        cycles: number_in(bytes[1218], bytes[1219]),
+        words,
     }
 }
 
@@ -198,10 +198,10 @@ fn empty_run() -> Run {
     let formula = Formula {
         signals: 0,
         rows: 0,
-        places: places,
+        places,
     };
     Run {
-        formula: formula,
+        formula,
         cycles: 0,
         words: [0; 128],
     }
@@ -237,8 +237,5 @@ pub fn read(bytes: &[u8]) -> Held
     let run = decode(bytes);
     let again = encode(run);
     let whole = same(&again, bytes);
-    Held {
-        whole: whole,
-        run: run,
-    }
+    Held { whole, run }
 }
