@@ -1,9 +1,9 @@
 // `all_sheets RULE TAKE`: the verdict, and how many of all sheets pass the check, where a sheet has at most 12 digits.
 use crate::case;
+use crate::show;
 use checking::finding::CheckAnswer;
 use checking::finding::Finding;
 use judging::verdict::Answer;
-use judging::verdict::Verdict;
 use normal_form::sign::Sign;
 use tables::refusal::Outcome;
 use tables::row::Formula;
@@ -72,25 +72,6 @@ fn count_passing(formula: Formula, trace: Trace, rows: u8, end: u64) -> u64
     count
 }
 
-fn print_word(word: &[u8]) {
-    printing::print_bytes(b"verdict=");
-    printing::print_bytes(word);
-    printing::print_bytes(b"\n");
-}
-
-fn print_verdict(answer: Answer) {
-    match answer {
-        Answer::Refused(refusal) => printing::print_refusal(refusal),
-        Answer::Judged(verdict) => match verdict {
-            Verdict::Holds => print_word(b"holds"),
-            Verdict::Breaks => print_word(b"breaks"),
-            Verdict::Kept => print_word(b"kept"),
-            Verdict::Broken => print_word(b"broken"),
-            Verdict::Open => print_word(b"open"),
-        },
-    }
-}
-
 fn try_sheets(formula: Formula, trace: Trace, rows: u8) {
     if 12 < rows {
         return;
@@ -115,7 +96,7 @@ fn judge(formula: Formula, trace: Trace) -> Answer {
 }
 
 fn try_all(formula: Formula, trace: Trace) {
-    print_verdict(judge(formula, trace));
+    show::verdict(judge(formula, trace));
     let outcome = rule_file::check::check_formula(formula);
     match outcome {
         Outcome::Refused(refusal) => printing::print_refusal(refusal),

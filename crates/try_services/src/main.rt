@@ -3,8 +3,10 @@
 // here, and an arm in `rust/second/src/bin/expected.rs`, which says what must be printed.
 mod all_sheets;
 mod case;
+mod changes;
 mod reading;
 mod rules;
+mod runs;
 mod show;
 mod texts;
 
@@ -15,6 +17,9 @@ fn report(case: &[u8]) {
         return;
     }
     if rules::tried(case) {
+        return;
+    }
+    if runs::tried(case) {
         return;
     }
     if texts::tried(case) {

@@ -3,18 +3,11 @@
 use crate::case;
 use crate::show;
 use normal_form::sign::Sign;
-use rule_file::rule::RuleAnswer;
 use tables::refusal::Outcome;
 use tables::row::Formula;
 
-fn load_rule(case: &[u8]) -> RuleAnswer {
-    let mut space = [0u8; 65537];
-    let n = case::load(case, 1, &mut space);
-    rule_file::rule::read_rule(&space[..n])
-}
-
 fn bound(case: &[u8]) {
-    let read = load_rule(case);
+    let read = case::load_rule(case);
     let outcome = read.outcome;
     match outcome {
         Outcome::Refused(refusal) => printing::print_refusal(refusal),
@@ -28,7 +21,7 @@ fn write_normal(formula: Formula, sign: Sign, lent: &mut [u8]) {
 }
 
 fn normal(case: &[u8], sign: Sign) {
-    let read = load_rule(case);
+    let read = case::load_rule(case);
     let mut lent = case::dots();
     let size = case::size(case, 2, &lent);
     let outcome = read.outcome;
@@ -47,7 +40,7 @@ fn call_step(case: &[u8], formula: Formula, lent: &mut [u8]) {
 }
 
 fn step(case: &[u8]) {
-    let read = load_rule(case);
+    let read = case::load_rule(case);
     let mut lent = case::dots();
     let size = case::size(case, 5, &lent);
     let outcome = read.outcome;

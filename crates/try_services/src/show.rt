@@ -1,12 +1,34 @@
 // What is printed of an answer.
+use judging::verdict::Answer;
+use judging::verdict::Verdict;
 use tables::refusal::Outcome;
 use writing::answer::Bytes;
 
-// Of a file that is read: `ok`, or the refusal.
+// Of a file that is read, or a call that answers nothing else: `ok`, or the refusal.
 pub fn outcome(outcome: Outcome) {
     match outcome {
         Outcome::Accepted => printing::print_bytes(b"ok\n"),
         Outcome::Refused(refusal) => printing::print_refusal(refusal),
+    }
+}
+
+fn verdict_word(word: &[u8]) {
+    printing::print_bytes(b"verdict=");
+    printing::print_bytes(word);
+    printing::print_bytes(b"\n");
+}
+
+// Of a service that judges: the verdict, or the refusal.
+pub fn verdict(answer: Answer) {
+    match answer {
+        Answer::Refused(refusal) => printing::print_refusal(refusal),
+        Answer::Judged(verdict) => match verdict {
+            Verdict::Holds => verdict_word(b"holds"),
+            Verdict::Breaks => verdict_word(b"breaks"),
+            Verdict::Kept => verdict_word(b"kept"),
+            Verdict::Broken => verdict_word(b"broken"),
+            Verdict::Open => verdict_word(b"open"),
+        },
     }
 }
 

@@ -25,5 +25,6 @@ mod cases;
 
 pub use judge::Verdict;
 pub use refusal::Refusal;
+pub use run::run_rule;
 pub use services::*;
 pub use sheet::Finding;

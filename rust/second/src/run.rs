@@ -40,15 +40,12 @@ pub struct Run {
 impl Run {
     /// The run that these bytes are, if calls lead to them.
     pub fn read(bytes: &[u8]) -> Option<Run> {
-        let &[signals, rows, low, high] = bytes.get(SIGNALS..)? else { return None };
+        let &[_, _, low, high] = bytes.get(SIGNALS..)? else { return None };
         let count = usize::from(low) + 256 * usize::from(high);
-        if bytes.len() != BYTES || signals > 32 || rows > 64 || count > MOST_CYCLES {
+        if bytes.len() != BYTES || count > MOST_CYCLES {
             return None;
         }
-        let places = bytes[ROWS..SIGNALS].chunks(3).take(rows.into());
-        let lines: Option<String> =
-            (1..).zip(places).map(|(own, row)| Some(format!("r{own}={}\n", spelt(row)?))).collect();
-        let rule = Rule::read(format!("format=1\nsignals={signals}\nrows={rows}\n{}", lines?).as_bytes()).ok()?;
+        let rule = Rule::read(run_rule(bytes)?.as_bytes()).ok()?;
         let digit = |signal, cycle| {
             let (byte, bit) = place(signal, cycle);
             if bytes[byte] & bit == 0 {
@@ -83,6 +80,14 @@ impl Run {
         let lines: String = (0..).zip(&self.cycles).map(|(cycle, digits)| format!("c{cycle}={digits}\n")).collect();
         format!("format=1\nsignals={}\ncycles={}\nloop=none\n{lines}", self.rule.signals, self.cycles.len())
     }
+}
+
+/// The rule file that the bytes of a run spell, also one that is refused; none where a row has no known word.
+pub fn run_rule(bytes: &[u8]) -> Option<String> {
+    let &[signals, rows, ..] = bytes.get(SIGNALS..)? else { return None };
+    let places = bytes[ROWS..SIGNALS].chunks(3).take(rows.into());
+    let lines: Option<String> = (1..).zip(places).map(|(own, row)| Some(format!("r{own}={}\n", spelt(row)?))).collect();
+    Some(format!("format=1\nsignals={signals}\nrows={rows}\n{}", lines?))
 }
 
 /// The byte and the bit in it where a signal's digit in a cycle stands: a word of 64 bits, its lowest byte first, has 64 cycles of a

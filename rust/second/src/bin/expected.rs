@@ -4,13 +4,19 @@
 #![forbid(unsafe_code)]
 
 use second::{
-    bound, check_sheet, judge_text, make_sheet, normal, read_rule, read_sheet, read_take, step, Finding, Refusal,
+    bound, check_sheet, judge_text, make_sheet, normal, read_rule, read_sheet, read_take, run_begin, run_cycle,
+    run_rule, run_verdict, step, Finding, Refusal,
 };
 
 /// The longest text of `judge` or `sheet`: a sheet of 128 rows and 256 cycles.
 const MOST_TEXT: usize = 33_567;
 /// The most digits of a sheet where all sheets are tried.
 const MOST_DIGITS: usize = 12;
+/// Where the bytes of a run have its rows, its counts of signals and rows, its count of cycles, and their end.
+const RUN_ROWS: usize = 1024;
+const RUN_SIGNALS: usize = 1216;
+const RUN_CYCLES: usize = 1218;
+const RUN_END: usize = 1220;
 
 fn main() {
     for case in std::env::args().skip(1) {
@@ -40,6 +46,7 @@ fn answer(words: &[&str]) -> Result<String, Refusal> {
             check_sheet(&load(rule), &load(take), &load(sheet)).map(|finding| finding.to_string())
         }
         ["all_sheets", rule, take] => Ok(all_sheets(rule, take)),
+        ["run", rule, ref calls @ ..] => run(rule, calls),
         _ => Ok("no such service\n".to_string()),
     }
 }
@@ -95,4 +102,52 @@ fn sheet(rows: usize, cycles: usize, number: usize) -> String {
     let line = |row: usize| format!("z{}={}\n", row + 1, &digits[row * cycles..][..cycles]);
     let lines: String = (0..rows).map(line).collect();
     format!("format=1\nrows={rows}\ncycles={cycles}\n{lines}")
+}
+
+/// What a run that begins with a rule answers to one call after another.
+fn run(rule: &str, calls: &[&str]) -> Result<String, Refusal> {
+    let mut run = [0; RUN_END];
+    run_begin(&load(rule), &mut run)?;
+    let said: String = calls.iter().map(|call| called(&mut run, call)).collect();
+    Ok(format!("ok\n{said}"))
+}
+
+/// What is said to a word: a change, `begin`, `?` or the digits of a cycle. Of a call that must leave the run alone, whether it did.
+fn called(run: &mut [u8; RUN_END], word: &str) -> String {
+    let before = *run;
+    if let Some((field, number)) = word.split_once('=') {
+        change(run, field, number.parse().expect("a number"));
+        return String::new();
+    }
+    let said = match word {
+        "begin" => return begun(run).map_or_else(|refusal| refusal.to_string(), |()| "ok\n".to_string()),
+        "?" => run_verdict(run).map(|verdict| format!("verdict={verdict}\n")),
+        digits => match run_cycle(run, digits.as_bytes()) {
+            Ok(()) => return "ok\n".to_string(),
+            Err(refusal) => Err(refusal),
+        },
+    };
+    let left = if *run == before { "same" } else { "other" };
+    format!("{}run={left}\n", said.unwrap_or_else(|refusal| refusal.to_string()))
+}
+
+/// A run begins with the rule that another holds. If that is refused it is held all the same, with no cycle.
+fn begun(run: &mut [u8; RUN_END]) -> Result<(), Refusal> {
+    let rule = run_rule(run).expect("a change knows no other rows");
+    run[..RUN_ROWS].fill(0);
+    run[RUN_CYCLES..].fill(0);
+    run_begin(rule.as_bytes(), run).map(|_| ())
+}
+
+/// Sets a count, a bit of the digits, or a row to `false`.
+fn change(run: &mut [u8; RUN_END], field: &str, number: u16) {
+    let at = usize::from(number);
+    match field {
+        "signals" => run[RUN_SIGNALS] = number as u8,
+        "rows" => run[RUN_SIGNALS + 1] = number as u8,
+        "cycles" => run[RUN_CYCLES..].copy_from_slice(&number.to_le_bytes()),
+        "bit" => run[at / 8] |= 1 << (at % 8),
+        "place" => run[RUN_ROWS + 3 * at..][..3].copy_from_slice(&[1, 0, 0]),
+        _ => panic!("no such change: {field}"),
+    }
 }
