@@ -1,22 +1,6 @@
 //! Makes a valid file of any bytes, with as little change as may be: a valid file stays as it is.
 
-/// The words of rows, each with its number of operands.
-const WORDS: [(&str, usize); 14] = [
-    ("true", 0),
-    ("false", 0),
-    ("sig", 1),
-    ("nsig", 1),
-    ("not", 1),
-    ("and", 2),
-    ("or", 2),
-    ("next", 1),
-    ("always", 1),
-    ("ever", 1),
-    ("weak", 2),
-    ("until", 2),
-    ("release", 2),
-    ("srelease", 2),
-];
+use second::WORDS;
 
 /// A rule file, and its number of signals.
 pub fn rule(file: &[u8]) -> (Vec<u8>, usize) {

@@ -37,7 +37,7 @@ withoutVerdicts (verdict a ∷ calls) = withoutVerdicts calls
 
 -- runs held in states of some kind, which `stateOf` gives for a rule and cycles
 module _ {S : Type 0} (stateOf : Formula → List (List Bool) → S) where
-  -- "one cycle more", or a refusal: what a cycle's call answers in a state, and the state that it leaves. "These refusals … leave the run
+  -- what a cycle's call answers in a state, and the state that it leaves: one cycle more, or a refusal. "These refusals … leave the run
   -- unaltered."
   pub record TakesCycle (before : S) (digits : List ℕ) (outcome : Outcome) (after : S) : Type 0 where
     pub told : InState (λ f cs. before ≡ stateOf f cs) (outcome ≡ callRefused (numbered 4))

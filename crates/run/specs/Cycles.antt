@@ -22,7 +22,7 @@ cycleOutcome signals taken digits =
     (andThen (pick (eqb (length digits) signals) Accepted (callRefused (numbered 7)))
     (pick (ltb taken 256) Accepted (callRefused (numbered 11))))
 
--- the cycles behind such a call: one more, or "the run unaltered"
+-- the cycles behind such a call: one more; or the same, since refusals "leave the run unaltered"
 unfoldable pub cyclesAfter : ℕ → List (List Bool) → List ℕ → List (List Bool)
 cyclesAfter signals cs digits = onOutcome (cycleOutcome signals (length cs) digits) (λ why. cs) (cs ++ (digitsIn digits ∷ []))
 

@@ -25,6 +25,7 @@ mod cases;
 
 pub use judge::Verdict;
 pub use refusal::Refusal;
+pub use rule::WORDS;
 pub use run::run_rule;
 pub use services::*;
 pub use sheet::Finding;

@@ -10,6 +10,24 @@ const MOST_ROWS: usize = 64;
 /// The signals that a rule or a take may have.
 pub const MOST_SIGNALS: usize = 32;
 
+/// The words of rows, each with its count of numbers, at the places that a run's bytes name them by.
+pub const WORDS: [(&str, usize); 14] = [
+    ("true", 0),
+    ("false", 0),
+    ("sig", 1),
+    ("nsig", 1),
+    ("not", 1),
+    ("and", 2),
+    ("or", 2),
+    ("next", 1),
+    ("always", 1),
+    ("ever", 1),
+    ("weak", 2),
+    ("until", 2),
+    ("release", 2),
+    ("srelease", 2),
+];
+
 /// A row with the numbers of its signal or operands; both count from 1.
 #[derive(Clone, Copy, Debug, PartialEq, Eq)]
 pub enum Row {

@@ -4,7 +4,7 @@
 //! that they spell is read as a rule file, and what was read must be written as the same bytes again. So the bytes that are
 //! read are exactly those that some rule and some cycles are written as.
 
-use crate::rule::{Row, Rule};
+use crate::rule::{Row, Rule, WORDS};
 use crate::take::MOST_CYCLES;
 
 /// The bytes of a run.
@@ -12,24 +12,6 @@ const BYTES: usize = 1220;
 /// Where the rows begin, three bytes each, behind the digits; and where signals, rows and cycles stand, behind the rows.
 const ROWS: usize = 1024;
 const SIGNALS: usize = 1216;
-
-/// The words of rows at the places that bytes name them by, each with its count of numbers.
-const WORDS: [(&str, usize); 14] = [
-    ("true", 0),
-    ("false", 0),
-    ("sig", 1),
-    ("nsig", 1),
-    ("not", 1),
-    ("and", 2),
-    ("or", 2),
-    ("next", 1),
-    ("always", 1),
-    ("ever", 1),
-    ("weak", 2),
-    ("until", 2),
-    ("release", 2),
-    ("srelease", 2),
-];
 
 /// A rule and the digits of the cycles so far.
 pub struct Run {
