@@ -6,7 +6,7 @@ use Rattle.tables.specs.Kind.{kinds, kindAt, dualOf}
 use Rattle.tables.specs.Place.{tabulateFrom}
 use Rattle.tables.specs.Bit.{bitAt, wordFrom, laneOf}
 use Rattle.text.specs.Search.{further, firstWhere}
-use Rattle.text.specs.Number.{digitsFrom, digitsOf, numberOf}
+use Rattle.text.specs.Number.{digitsFrom, digitsOf, numberOf, paddedOf}
 use Rattle.text.specs.Line.{cutOf, isNumbered, keyedLine}
 use Rattle.text.specs.Count.{countForm}
 use Rattle.text.specs.Digits.{areDigits, digitsForm}
@@ -38,7 +38,7 @@ a also b = first a b
 
 -- row by row; of a verdict: the signals agree, the ending is what the service needs, and the bits give the verdict
 computed : Each Computed cases
-unfolding parseRule keyedLine cutOf firstWhere further sameBytes countForm numberOf digitsOf digitsFrom bodyLines isNumbered rowValue rowForm formOf kindNamed kinds kindAt dualOf tabulateFrom writtenRule writtenBody decimal decimalIn markedDown reach listing normalListing normalForm writtenNormal refusalText parseTake areDigits digitsForm endingValue bitAt wordFrom laneOf position approximant bitsWithin bitsOf verdictText parseSheet writtenSheet report-from reported survey-from surveyed computedFinding
+unfolding parseRule keyedLine cutOf firstWhere further sameBytes countForm numberOf paddedOf digitsOf digitsFrom bodyLines isNumbered rowValue rowForm formOf kindNamed kinds kindAt dualOf tabulateFrom writtenRule writtenBody decimal decimalIn markedDown reach listing normalListing normalForm writtenNormal refusalText parseTake areDigits digitsForm endingValue bitAt wordFrom laneOf position approximant bitsWithin bitsOf verdictText parseSheet writtenSheet report-from reported survey-from surveyed computedFinding
 computed =
     refl
     also (λ buf. (refl, refl))

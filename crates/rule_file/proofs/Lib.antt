@@ -1,4 +1,3 @@
 pub mod RowLoop
 pub mod CheckLoop
 pub mod Rules
-pub mod Exact

@@ -1,5 +1,5 @@
--- Rule files and the formulas they hold: a formula that is written is read back, and only valid formulas are read. (That they are read
--- from their written form alone: Exact.) Assumes nothing.
+-- Rule files and the formulas they hold: a formula that is written is read back, and only valid formulas are read. (What their bytes are:
+-- crate padding.) Assumes nothing.
 use mathlib.Core.Path.{_≡_, refl, sym, ap, _∙_, subst}
 use mathlib.Core.Bool.{true}
 use mathlib.Core.List.{List, [], _∷_, map}

@@ -1,4 +1,4 @@
 pub mod Laws
 pub mod RowValues
+pub mod Spelling
 pub mod WrittenRows
-pub mod Exact

@@ -12,7 +12,7 @@ use Rattle.tables.specs.declared.refusal.Reason.{Reason}
 use Rattle.tables.specs.declared.row.Row.{Row}
 use Rattle.tables.specs.declared.row.Row.the-variants.{Constant, Signal, Unary, Binary}
 use Rattle.text.specs.Search.{firstWhere, firstOf, onFound}
-use Rattle.text.specs.Number.{numberOf, onNumber}
+use Rattle.text.specs.Number.{paddedOf, onNumber}
 use Rattle.text.specs.Result.{Parsed, Next, onParsed}
 use Rattle.text.specs.Result.Parsed.{good, bad}
 use Rattle.text.specs.declared.search.Found.{Found}
@@ -36,9 +36,9 @@ unfoldable pub rowForm : List ℕ → Parsed Row
 rowForm value =
     onFound (firstOf 32 value) (formOf value 0 0 0) λ space.
     onFound (firstOf 32 (drop (space + 1) value))
-    (onNumber (numberOf (drop (space + 1) value)) (bad (numbered 2)) λ a. formOf (take space value) 1 a 0) λ between.
-    onNumber (numberOf (take between (drop (space + 1) value))) (bad (numbered 2)) λ a.
-    onNumber (numberOf (drop (between + 1) (drop (space + 1) value))) (bad (numbered 2)) λ b.
+    (onNumber (paddedOf (drop (space + 1) value)) (bad (numbered 2)) λ a. formOf (take space value) 1 a 0) λ between.
+    onNumber (paddedOf (take between (drop (space + 1) value))) (bad (numbered 2)) λ a.
+    onNumber (paddedOf (drop (between + 1) (drop (space + 1) value))) (bad (numbered 2)) λ b.
     formOf (take space value) 2 a b
 
 -- "A signal number is 0 or above `signals`": then it is none

@@ -61,15 +61,15 @@ fn row_form(value: &[u8]) -> RowForm
     let word = &value[..space];
     let numbers = &value[space + 1..];
     let Found::At(between) = text::search::find(numbers, b' ') else {
-        let Number::Is(only) = text::number::read_number(numbers) else {
+        let Number::Is(only) = text::number::read_padded(numbers) else {
             return RowForm::Formless;
         };
         return form_of(word, 1, only, 0);
     };
-    let Number::Is(first) = text::number::read_number(&numbers[..between]) else {
+    let Number::Is(first) = text::number::read_padded(&numbers[..between]) else {
         return RowForm::Formless;
     };
-    let Number::Is(second) = text::number::read_number(&numbers[between + 1..]) else {
+    let Number::Is(second) = text::number::read_padded(&numbers[between + 1..]) else {
         return RowForm::Formless;
     };
     form_of(word, 2, first, second)

@@ -1,5 +1,5 @@
--- Sheet files and the activation tables they hold: a table that is written is read back, and only valid tables are read. (That they are
--- read from their written form alone: Exact.) Assumes nothing.
+-- Sheet files and the activation tables they hold: a table that is written is read back, and only valid tables are read. (What their
+-- bytes are: crate padding.) Assumes nothing.
 use mathlib.Core.Path.{_≡_, refl, sym, ap, _∙_, subst}
 use mathlib.Core.Bool.{Bool, false}
 use mathlib.Core.List.{List, [], map}

@@ -22,7 +22,7 @@ use Rattle.tables.specs.declared.row.Formula.{Formula}
 use Rattle.tables.specs.declared.row.NormalForm.{NormalForm}
 use Rattle.text.specs.Search.{part, further, firstWhere}
 use Rattle.tables.proofs.Choices.{clash}
-use Rattle.text.specs.Number.{digitsFrom, digitsOf, numberOf}
+use Rattle.text.specs.Number.{digitsFrom, digitsOf, numberOf, paddedOf}
 use Rattle.text.specs.Line.{cutOf, isNumbered, keyedLine}
 use Rattle.text.specs.Count.{countForm}
 use Rattle.text.specs.Digits.{areDigits}
@@ -133,7 +133,7 @@ abbrev checked : Outcome
 checked = outcomeOf 1 (parseRule (writtenRule ruleA))
 
 checks : checked ≡ Accepted
-unfolding parseRule keyedLine cutOf firstWhere further sameBytes countForm numberOf digitsOf digitsFrom bodyLines isNumbered rowValue rowForm formOf kindNamed kinds kindAt tabulateFrom writtenRule writtenBody decimal decimalIn
+unfolding parseRule keyedLine cutOf firstWhere further sameBytes countForm numberOf paddedOf digitsOf digitsFrom bodyLines isNumbered rowValue rowForm formOf kindNamed kinds kindAt tabulateFrom writtenRule writtenBody decimal decimalIn
 checks = refl
 
 abbrev form : NormalForm

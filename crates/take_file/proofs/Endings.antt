@@ -12,7 +12,7 @@ use Rattle.tables.specs.declared.refusal.Reason.{Reason}
 use Rattle.tables.specs.declared.refusal.Reason.the-variants.{WrongForm, BadLoop}
 use Rattle.tables.specs.declared.trace.Ending.{Ending}
 use Rattle.tables.specs.declared.trace.Ending.the-variants.{Open, Loop}
-use Rattle.text.specs.Number.{numberOf}
+use Rattle.text.specs.Number.{paddedOf}
 use Rattle.text.specs.Line.{isKey, keyedLine}
 use Rattle.text.specs.Result.{Parsed, Next}
 use Rattle.text.specs.Result.Parsed.{good, bad}
@@ -20,7 +20,7 @@ use Rattle.text.specs.Written.{decimal}
 use Rattle.text.specs.declared.number.Number.the-variants.{Is, Not}
 use Rattle.tables.proofs.Choices.{clash, each-pick}
 use Rattle.text.proofs.Searching.{same-refl, same-eq}
-use Rattle.text.proofs.Numbers.{number-written, number-own, each-number}
+use Rattle.text.proofs.Numbers.{padded-written, padded-own, each-number}
 use Rattle.text.proofs.Lines.{Free, line-inside}
 use Rattle.text.proofs.Headers.{free, free-below, decimal-word}
 use Rattle.take_file.specs.Ending.{endingValue, endingLineAs}
@@ -40,15 +40,15 @@ module _ (cycles : ℕ) (v : List ℕ) where
   ending-none e = rw e
 
   module _ (n : sameBytes v (bytes "none") ≡ false) where
-    pub ending-formless : numberOf v ≡ Not → endingValue cycles v ≡ bad WrongForm
+    pub ending-formless : paddedOf v ≡ Not → endingValue cycles v ≡ bad WrongForm
     unfolding endingValue
     ending-formless e = rw (n, e)
 
-    pub ending-beyond : {m : ℕ} → numberOf v ≡ Is m → cycles ≤ m → endingValue cycles v ≡ bad BadLoop
+    pub ending-beyond : {m : ℕ} → paddedOf v ≡ Is m → cycles ≤ m → endingValue cycles v ≡ bad BadLoop
     unfolding endingValue
     ending-beyond {m} e h = rw (n, e, le-leb cycles m h)
 
-    pub ending-loop : {m : ℕ} → numberOf v ≡ Is m → m < cycles → endingValue cycles v ≡ good (Loop m)
+    pub ending-loop : {m : ℕ} → paddedOf v ≡ Is m → m < cycles → endingValue cycles v ≡ good (Loop m)
     unfolding endingValue
     ending-loop {m} e h = rw (n, e, lt-leb cycles m h)
 
@@ -70,21 +70,21 @@ ending-free (Loop n) = free-below 10 n (omega arith)
 
 pub ending-written : (cycles : ℕ) (e : Ending) → cycles ≤ 256 → Below cycles e → endingValue cycles (endingText e) ≡ good e
 ending-written cycles Open h b = ending-none cycles (bytes "none") (same-refl (bytes "none"))
-ending-written cycles (Loop n) h b = ending-loop cycles (decimal n) (decimal-other n) (number-written n (omega arith)) b
+ending-written cycles (Loop n) h b = ending-loop cycles (decimal n) (decimal-other n) (padded-written n (omega arith)) b
 
 pub ending-outside : (cycles n : ℕ) → cycles ≤ n → n < 100000 → endingValue cycles (endingText (Loop n)) ≡ bad BadLoop
-ending-outside cycles n h l = ending-beyond cycles (decimal n) (decimal-other n) (number-written n l) h
+ending-outside cycles n h l = ending-beyond cycles (decimal n) (decimal-other n) (padded-written n l) h
 
 -- what is read of an ending: `none`, or a number below the number of cycles
 pub data EndingOf (cycles : ℕ) (v : List ℕ) : Ending → Type 0 where
   ended : sameBytes v (bytes "none") ≡ true → EndingOf cycles v Open
-  looped : (n : ℕ) → sameBytes v (bytes "none") ≡ false → numberOf v ≡ Is n → n < cycles → EndingOf cycles v (Loop n)
+  looped : (n : ℕ) → sameBytes v (bytes "none") ≡ false → paddedOf v ≡ Is n → n < cycles → EndingOf cycles v (Loop n)
 
 pub ending-read : (cycles : ℕ) (v : List ℕ) (e : Ending) → endingValue cycles v ≡ good e → EndingOf cycles v e
 unfolding endingValue
 ending-read cycles v e =
     each-pick P (sameBytes v (bytes "none")) (λ s q. let z : Open ≡ e = cc in subst (EndingOf cycles v) z (ended s))
-    (λ s. each-number P (numberOf v) (λ q. clash (cc)) (λ n d. each-pick P (leb cycles n) (λ _ q. clash (cc))
+    (λ s. each-number P (paddedOf v) (λ q. clash (cc)) (λ n d. each-pick P (leb cycles n) (λ _ q. clash (cc))
     (λ l q. let z : Loop n ≡ e = cc in subst (EndingOf cycles v) z (looped n s (sym d) (leb-false cycles n l)))))
   where
     P : Parsed Ending → Type 0
@@ -100,7 +100,7 @@ ending-own : {cycles : ℕ} (e : Ending) {x : Ending} → EndingOf cycles (endin
 ending-own Open (ended s) = refl
 ending-own Open (looped n s d l) = clash (cc (same-refl (bytes "none")))
 ending-own (Loop m) (ended s) = clash (cc (decimal-other m))
-ending-own (Loop m) (looped n s d l) = ap Loop (number-own m n d)
+ending-own (Loop m) (looped n s d l) = ap Loop (padded-own m n d)
 
 pub ending-range : (cycles : ℕ) (e x : Ending) → endingValue cycles (endingText e) ≡ good x → (e ≡ x) × Below cycles x
 ending-range cycles e x q =

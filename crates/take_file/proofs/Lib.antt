@@ -1,4 +1,3 @@
 pub mod Endings
 pub mod Reading
 pub mod Takes
-pub mod Exact

@@ -1,5 +1,5 @@
--- Take files and the traces they hold: a trace that is written is read back, and only valid traces are read. (That they are read from
--- their written form alone: Exact.) Assumes nothing.
+-- Take files and the traces they hold: a trace that is written is read back, and only valid traces are read. (What their bytes
+-- are: crate padding.) Assumes nothing.
 use mathlib.Core.Path.{_≡_, refl, sym, ap, _∙_, subst}
 use mathlib.Core.Bool.{Bool, false}
 use mathlib.Core.List.{List, [], map}

@@ -8,7 +8,7 @@ use Rattle.tables.specs.Bytes.{bytes, sameBytes}
 use Rattle.tables.specs.declared.refusal.Reason.{Reason}
 use Rattle.tables.specs.declared.trace.Ending.{Ending}
 use Rattle.tables.specs.declared.trace.Ending.the-variants.{Open, Loop}
-use Rattle.text.specs.Number.{numberOf, onNumber}
+use Rattle.text.specs.Number.{paddedOf, onNumber}
 use Rattle.text.specs.Result.{Parsed, Next}
 use Rattle.text.specs.Result.Parsed.{good, bad}
 use Rattle.take_file.specs.declared.ending.EndingLine.{EndingLine}
@@ -18,7 +18,7 @@ use Rattle.take_file.specs.declared.ending.EndingLine.the-variants.{Endi
 unfoldable pub endingValue : ℕ → List ℕ → Parsed Ending
 endingValue cycles value =
     pick (sameBytes value (bytes "none")) (good Open)
-    (onNumber (numberOf value) (bad (numbered 2)) λ n.
+    (onNumber (paddedOf value) (bad (numbered 2)) λ n.
     pick (leb cycles n) (bad (numbered 6)) (good (Loop n)))
 
 -- what each case of the code's answer says

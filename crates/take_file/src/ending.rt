@@ -30,7 +30,7 @@ pub fn ending_line(rest: &[u8], cycles: usize) -> EndingLine
     if text::search::same(value, b"none") {
         return EndingLine::Ending(Ending::Open, end + 1);
     }
-    let Number::Is(cycle) = text::number::read_number(value) else {
+    let Number::Is(cycle) = text::number::read_padded(value) else {
         return EndingLine::Wrong(Reason::WrongForm);
     };
     if cycles <= cycle {

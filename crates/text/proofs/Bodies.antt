@@ -14,7 +14,7 @@ use Rattle.text.specs.Result.{Parsed, Next, Result, onParsed, mapResult,
 use Rattle.text.specs.Result.Parsed.{good, bad}
 use Rattle.text.specs.Result.Result.{accepted, refused}
 use Rattle.text.specs.Body.{bodyLines, EachAt}
-use Rattle.text.specs.Written.{decimal, writtenBody}
+use Rattle.text.specs.Written.{decimal, writtenLine, writtenBody}
 use Rattle.tables.proofs.Choices.{clash, each-pick}
 use Rattle.text.proofs.Lines.{Free, free-decimal, no-digit-below, no-digit-above, line-step, LineOf, line-read, numbered-written}
 
@@ -90,17 +90,25 @@ empty : (s : List ℕ) → length s ≡ 0 → s ≡ []
 empty [] e = refl
 empty (x ∷ xs) e = absurd (omega arith)
 
-module _ {A : Type 0} (letter : ℕ) (big : 61 < letter) (form : ℕ → List ℕ → Parsed A) (text : A → List ℕ) where
-  -- the first line of a written body
-  pub body-line : (left k n : ℕ) (x : A) (xs : List A) → k < 100000 → Free 10 (text x)
-      → bodyLines letter form (suc left) k n (writtenBody letter text k (x ∷ xs))
-      ≡ onParsed (form k (text x)) (λ e. refused e n) (λ y. mapResult (_∷_ y) (bodyLines letter form left (k + 1) (n + 1) (writtenBody letter text (k + 1) xs)))
-  unfolding bodyLines writtenBody
-  body-line left k n x xs h f =
-      line-step (letter ∷ decimal k) (text x) (writtenBody letter text (k + 1) xs)
+module _ {A : Type 0} (letter : ℕ) (big : 61 < letter) (form : ℕ → List ℕ → Parsed A) where
+  -- the first line of a body, whatever its value
+  pub body-step : (left k n : ℕ) (v rest : List ℕ) → k < 100000 → Free 10 v
+      → bodyLines letter form (suc left) k n (writtenLine (letter ∷ decimal k) v rest)
+      ≡ onParsed (form k v) (λ e. refused e n) (λ y. mapResult (_∷_ y) (bodyLines letter form left (k + 1) (n + 1) rest))
+  unfolding bodyLines
+  body-step left k n v rest h f =
+      line-step (letter ∷ decimal k) v rest
       (λ q. omega arith, free-decimal 10 k (no-digit-below 10 (omega arith)) h)
       (λ q. omega arith, free-decimal 61 k (no-digit-above 61 (omega arith)) h)
       f (isNumbered letter k) (form k) n (λ y after. mapResult (_∷_ y) (bodyLines letter form left (k + 1) (n + 1) after)) (numbered-written letter k h)
+
+module _ {A : Type 0} (letter : ℕ) (big : 61 < letter) (form : ℕ → List ℕ → Parsed A) (text : A → List ℕ) where
+  -- and of a written one
+  pub body-line : (left k n : ℕ) (x : A) (xs : List A) → k < 100000 → Free 10 (text x)
+      → bodyLines letter form (suc left) k n (writtenBody letter text k (x ∷ xs))
+      ≡ onParsed (form k (text x)) (λ e. refused e n) (λ y. mapResult (_∷_ y) (bodyLines letter form left (k + 1) (n + 1) (writtenBody letter text (k + 1) xs)))
+  unfolding writtenBody
+  body-line left k n x xs h f = body-step letter big form left k n (text x) (writtenBody letter text (k + 1) xs) h f
 
   module _ (Ok : ℕ → A → Type 0) where
     -- WHAT IS WRITTEN IS READ

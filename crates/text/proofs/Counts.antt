@@ -8,7 +8,7 @@ use lib.ListN.{length}
 use borrow.Author.Tests.{lt-ltb, le-ltb, ltb-false}
 use Rattle.tables.specs.declared.refusal.Reason.{Reason}
 use Rattle.tables.specs.declared.refusal.Reason.the-variants.{WrongForm}
-use Rattle.text.specs.Number.{numberOf}
+use Rattle.text.specs.Number.{paddedOf}
 use Rattle.text.specs.Count.{countForm, countedAs}
 use Rattle.text.specs.Line.{isKey, keyedLine}
 use Rattle.text.specs.Result.{Parsed}
@@ -18,16 +18,16 @@ use Rattle.text.specs.declared.line.Counted.{Counted}
 use Rattle.text.specs.declared.line.Counted.the-variants.{Count}
 use Rattle.text.specs.declared.number.Number.the-variants.{Is, Not}
 use Rattle.tables.proofs.Choices.{clash, each-pick}
-use Rattle.text.proofs.Numbers.{number-written, each-number}
+use Rattle.text.proofs.Numbers.{padded-written, each-number}
 use Rattle.text.proofs.Lines.{line-inside, line-read}
 
 -- the value of a count, by its number
 module _ (low high : ℕ) (outside : Reason) (v : List ℕ) where
-  pub value-no-number : numberOf v ≡ Not → countForm low high outside v ≡ bad WrongForm
+  pub value-no-number : paddedOf v ≡ Not → countForm low high outside v ≡ bad WrongForm
   unfolding countForm
   value-no-number e = rw e
 
-  module _ {n : ℕ} (e : numberOf v ≡ Is n) where
+  module _ {n : ℕ} (e : paddedOf v ≡ Is n) where
     pub value-below : n < low → countForm low high outside v ≡ bad outside
     unfolding countForm
     value-below h = rw (e, lt-ltb n low h)
@@ -42,23 +42,23 @@ module _ (low high : ℕ) (outside : Reason) (v : List ℕ) where
 
 -- a written count in range
 pub count-written : (low high : ℕ) (outside : Reason) (n : ℕ) → low ≤ n → n ≤ high → n < 100000 → countForm low high outside (decimal n) ≡ good n
-count-written low high outside n l u h = value-within low high outside (decimal n) (number-written n h) l u
+count-written low high outside n l u h = value-within low high outside (decimal n) (padded-written n h) l u
 
 -- what is read of a count: its number, and that it is in range
 pub record CountOf (low high : ℕ) (v : List ℕ) (n : ℕ) : Type 0 where
   pub least : low ≤ n
   pub most : n ≤ high
-  pub number : numberOf v ≡ Is n
+  pub number : paddedOf v ≡ Is n
 
 pub count-read : (low high : ℕ) (outside : Reason) (v : List ℕ) (n : ℕ) → countForm low high outside v ≡ good n → CountOf low high v n
 unfolding countForm
 count-read low high outside v n =
-    each-number P (numberOf v) (λ q. clash (cc)) (λ m e. each-pick P (ltb m low) (λ _ q. clash (cc)) (λ l. each-pick P (ltb high m) (λ _ q. clash (cc)) (λ u q. whole m e l u (cc))))
+    each-number P (paddedOf v) (λ q. clash (cc)) (λ m e. each-pick P (ltb m low) (λ _ q. clash (cc)) (λ l. each-pick P (ltb high m) (λ _ q. clash (cc)) (λ u q. whole m e l u (cc))))
   where
     P : Parsed ℕ → Type 0
     P p = p ≡ good n → CountOf low high v n
 
-    whole : (m : ℕ) → Is m ≡ numberOf v → ltb m low ≡ false → ltb high m ≡ false → m ≡ n → CountOf low high v n
+    whole : (m : ℕ) → Is m ≡ paddedOf v → ltb m low ≡ false → ltb high m ≡ false → m ≡ n → CountOf low high v n
     whole m e l u q =
         record {
           least = rw q at (ltb-false m low l);

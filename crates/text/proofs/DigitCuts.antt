@@ -14,7 +14,7 @@ use borrow.Author.Tests.{ltb-false, eqb-true, eq-eqb, ne-eqb}
 use Rattle.tables.specs.Choice.{pick}
 use Rattle.tables.specs.declared.refusal.Reason.the-variants.{WrongForm}
 use Rattle.text.specs.Search.{firstWhere, firstOf, further, part}
-use Rattle.text.specs.Number.{digitsFrom, digitsOf, numberOf}
+use Rattle.text.specs.Number.{numberOf}
 use Rattle.text.specs.Line.{cutOf, isNumbered, keyedLine}
 use Rattle.text.specs.Digits.{areDigits, digitsIn, digitsForm}
 use Rattle.text.specs.Result.{Parsed, Next}
@@ -29,7 +29,7 @@ use Rattle.text.specs.declared.search.Found.the-variants.{At, Nothing}
 use Rattle.tables.proofs.Choices.{clash, each-pick, pick-both}
 use Rattle.text.proofs.Searching.{hit, further-inv}
 use Rattle.text.proofs.Numbers.{each-number}
-use Rattle.text.proofs.Lines.{Free, cut-found, cut-at, cut-within, cut-written, front, front-length, keyed-absent, keyed-other, keyed-bad, keyed-good}
+use Rattle.text.proofs.Lines.{Free, number-free, cut-found, cut-at, cut-within, cut-written, front, front-length, keyed-absent, keyed-other, keyed-bad, keyed-good}
 use Rattle.text.proofs.DigitLines.{part-length, form-length, form-other, form-digits, text-of-digits, digits-free}
 
 -- ---- the first of its kind
@@ -62,35 +62,14 @@ first-take b (x ∷ xs) (suc j) i e = by (ℕ-discrete x b) (first-take b xs j) 
         let w = further-inv (firstOf b (take j xs)) i (rw (ne-eqb x b q) at e) in
         rw (ne-eqb x b q) (ap At (w .2) ∙ one-further (w .0) (firstOf b xs) (ih (w .0) (w .1)))
 
--- ---- a byte below the digits stands in no number
+-- ---- a byte below the digits stands in no key that is a letter and a number
 module _ (b : ℕ) (low : b < 48) where
-  from-free : (n : ℕ) (ds : List ℕ) (m : ℕ) → digitsFrom n ds ≡ Is m → Free b ds
-  unfolding digitsFrom
-  from-free n [] m e = tt
-  from-free n (d ∷ ds) m e = by (from-free (n * 10 + (d - 48)) ds m) e
-    where
-      P : Number → Type 0
-      P x = x ≡ Is m → Free b (d ∷ ds)
-
-      by : (digitsFrom (n * 10 + (d - 48)) ds ≡ Is m → Free b ds) → P (pick (ltb d 48) Not (pick (ltb 57 d) Not (digitsFrom (n * 10 + (d - 48)) ds)))
-      by ih = each-pick P (ltb d 48) (λ _ q. clash (cc)) (λ l. each-pick P (ltb 57 d) (λ _ q. clash (cc)) (λ _ q. (λ z. omega (arith, ltb-false d 48 l), ih q)))
-
-  of-free : (s : List ℕ) (m : ℕ) → digitsOf s ≡ Is m → Free b s
-  unfolding digitsOf
-  of-free s m = each-pick (λ x. x ≡ Is m → Free b s) (ltb 5 (length s)) (λ _ q. clash (cc)) (λ _. from-free 0 s m)
-
-  number-free : (s : List ℕ) (m : ℕ) → numberOf s ≡ Is m → Free b s
-  unfolding numberOf
-  number-free [] m e = clash (cc)
-  number-free (d ∷ []) m e = of-free (d ∷ []) m e
-  number-free (d ∷ x ∷ ds) m e = each-pick (λ n. n ≡ Is m → Free b (d ∷ x ∷ ds)) (eqb d 48) (λ _ q. clash (cc)) (λ _. of-free (d ∷ x ∷ ds) m) e
-
   numbered-free : (l n : ℕ) (s : List ℕ) → (l ≡ b → ⊥) → isNumbered l n s ≡ true → Free b s
   unfolding isNumbered
   numbered-free l n [] d e = clash (cc)
   numbered-free l n (x ∷ xs) d e =
       let w = pick-both (eqb x l) _ e in
-      (λ q. d (sym (eqb-true x l (w .0)) ∙ q), each-number (λ t. t ≡ true → Free b xs) (numberOf xs) (λ q. clash (cc)) (λ m f _. number-free xs m (sym f)) (w .1))
+      (λ q. d (sym (eqb-true x l (w .0)) ∙ q), each-number (λ t. t ≡ true → Free b xs) (numberOf xs) (λ q. clash (cc)) (λ m f _. number-free b low xs m (sym f)) (w .1))
 
 -- ---- the line
 module _ (letter number count : ℕ) (rest : List ℕ) where

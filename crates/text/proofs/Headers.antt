@@ -12,7 +12,7 @@ use Rattle.tables.specs.Choice.{pick}
 use Rattle.tables.specs.declared.refusal.Reason.{Reason}
 use Rattle.tables.specs.declared.refusal.Outcome.the-variants.{Accepted}
 use Rattle.text.specs.Line.{isKey, keyedLine}
-use Rattle.text.specs.Number.{numberOf}
+use Rattle.text.specs.Number.{paddedOf}
 use Rattle.text.specs.Count.{countForm, countedAs}
 use Rattle.text.specs.Result.{Parsed, Next, Result, onParsed, onLine, mapResult, outcomeOf}
 use Rattle.text.specs.Result.Parsed.{good, bad}
@@ -23,10 +23,10 @@ use Rattle.text.specs.declared.line.Counted.the-variants.{Count, Wrong}
 use Rattle.text.specs.declared.number.Number.the-variants.{Is}
 use Rattle.tables.proofs.Choices.{clash}
 use Rattle.text.proofs.Searching.{same-refl, same-eq}
-use Rattle.text.proofs.Numbers.{number-written, number-own}
+use Rattle.text.proofs.Numbers.{padded-written, padded-own}
 use Rattle.text.proofs.Laws.{decimal-small, decimal-large}
-use Rattle.text.proofs.Lines.{Free, free-append, line-step, line-read}
-use Rattle.text.proofs.Counts.{value-below, value-above, count-written, count-read}
+use Rattle.text.proofs.Lines.{Free, free-append, padded-free, line-step, line-read}
+use Rattle.text.proofs.Counts.{value-below, value-above, value-within, count-read}
 
 -- ---- bytes that a text lacks
 
@@ -153,7 +153,7 @@ module _ (key : List ℕ) (low high : ℕ) (outside : Reason) {B : Type 0} (line
     pub rest : List ℕ
     pub least : low ≤ count
     pub most : count ≤ high
-    pub number : numberOf text ≡ Is count
+    pub number : paddedOf text ≡ Is count
     pub whole : file ≡ writtenLine key text rest
     pub goes : go count rest ≡ accepted x
 
@@ -178,21 +178,27 @@ module _ (key : List ℕ) (low high : ℕ) (outside : Reason) {B : Type 0} (line
     written =
         line-step key (decimal n) rest (free 10 key feed) (free 61 key sign) (free-below 10 n (omega arith)) (isKey key) (countForm low high outside) line go (same-refl key)
 
+    -- a count that is padded is read as one that is not
+    pub count-padded : (v : List ℕ) → paddedOf v ≡ Is n → low ≤ n → n ≤ high → Read (writtenLine key v rest) ≡ go n rest
+    count-padded v e l u =
+        line-step key v rest (free 10 key feed) (free 61 key sign) (padded-free 10 (omega arith) v n e) (isKey key) (countForm low high outside) line go (same-refl key)
+        ∙ rw (value-within low high outside v e l u)
+
     pub count-in : low ≤ n → n ≤ high → n < 100000 → Read (writtenLine key (decimal n) rest) ≡ go n rest
-    count-in l u h = written ∙ rw (count-written low high outside n l u h)
+    count-in l u h = count-padded (decimal n) (padded-written n h) l u
 
     pub count-below : n < low → n < 100000 → Read (writtenLine key (decimal n) rest) ≡ refused outside line
-    count-below l h = written ∙ rw (value-below low high outside (decimal n) (number-written n h) l)
+    count-below l h = written ∙ rw (value-below low high outside (decimal n) (padded-written n h) l)
 
     pub count-above : low ≤ n → high < n → n < 100000 → Read (writtenLine key (decimal n) rest) ≡ refused outside line
-    count-above l u h = written ∙ rw (value-above low high outside (decimal n) (number-written n h) l u)
+    count-above l u h = written ∙ rw (value-above low high outside (decimal n) (padded-written n h) l u)
 
     -- where the file is accepted, the count is in range, whatever it is
     pub count-range : (x : B) → Read (writtenLine key (decimal n) rest) ≡ accepted x → (low ≤ n) × (n ≤ high) × (go n rest ≡ accepted x)
     count-range x e =
         let w = parsed-accepted (countForm low high outside (decimal n)) line (λ m. go m rest) x (sym written ∙ e) in
         let c = count-read low high outside (decimal n) (w .0) (w .1) in
-        let q : n ≡ w .0 = number-own n (w .0) (c .number) in
+        let q : n ≡ w .0 = padded-own n (w .0) (c .number) in
         rw q (c .least, c .most, w .2)
 
 -- what a call ensures of a count's line, and what is known of its result

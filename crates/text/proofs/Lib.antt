@@ -6,7 +6,6 @@ pub mod DigitLines
 pub mod DigitCuts
 pub mod Counts
 pub mod Headers
-pub mod Exact
 pub mod Laws
 pub mod RefusedLines
 pub mod Answered

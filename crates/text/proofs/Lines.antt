@@ -2,19 +2,19 @@
 use mathlib.Core.Path.{_≡_, refl, sym, ap, _∙_, subst}
 use mathlib.Core.Bool.{Bool, true, false}
 use mathlib.Core.List.{List, [], _∷_, _++_, append-assoc}
-use Prim.Native.Nat.{ℕ, zero, suc, _+_, _-_, _/_, _%_, _≤_, _<_, _^_}
+use Prim.Native.Nat.{ℕ, zero, suc, _+_, _*_, _-_, _/_, _%_, _≤_, _<_, _^_}
 use native.Mathlib.Nat.{sub-zero, suc-sub-suc}
 use native.Mathlib.Omega.{arith}
 use native.Mathlib.Decide.{decLt, ℕ-discrete}
-use lib.Dec.{eqb}
+use lib.Dec.{ltb, eqb}
 use lib.ListN.{length, getD, take, drop, length-append, length-take}
 use lib.Seq.{take-append-seam, drop-append-add, take-take, take-nil, drop-nil}
-use borrow.Author.Tests.{eq-eqb, ne-eqb, eqb-true}
+use borrow.Author.Tests.{ltb-false, eq-eqb, ne-eqb, eqb-true}
 use Rattle.tables.specs.Choice.{pick}
 use Rattle.tables.specs.declared.refusal.Reason.{Reason}
 use Rattle.tables.specs.declared.refusal.Reason.the-variants.{WrongForm}
 use Rattle.text.specs.Search.{firstWhere, firstOf, further, part}
-use Rattle.text.specs.Number.{numberOf, onNumber}
+use Rattle.text.specs.Number.{digitsFrom, digitsOf, numberOf, paddedOf, onNumber}
 use Rattle.text.specs.Line.{cutOf, onCut, isNumbered, keyedLine}
 use Rattle.text.specs.Result.{Parsed, Next, Result, onParsed, onLine}
 use Rattle.text.specs.Result.Parsed.{good, bad}
@@ -27,7 +27,7 @@ use Rattle.text.specs.declared.number.Number.the-variants.{Is, Not}
 use Rattle.text.specs.declared.search.Found.the-variants.{At, Nothing}
 use Rattle.tables.proofs.Choices.{clash, each-pick, pick-both}
 use Rattle.text.proofs.Searching.{hit, each-found, further-inv}
-use Rattle.text.proofs.Numbers.{number-written, number-read, tenth}
+use Rattle.text.proofs.Numbers.{number-written, number-read, number-padded, padded-digits, tenth}
 use Rattle.text.proofs.Laws.{decimal-small, decimal-large}
 
 -- ---- a byte that does not stand in a text
@@ -100,6 +100,29 @@ free-in b (suc f) n o h = free-step b f n o (free-in b f (n / 10) o (tenth f n h
 pub free-decimal : (b n : ℕ) → NoDigit b → n < 100000 → Free b (decimal n)
 unfolding decimal
 free-decimal b n o h = free-in b 4 n o (omega arith)
+
+-- nor a byte below the digits in what is read as one
+module _ (b : ℕ) (low : b < 48) where
+  from-free : (n : ℕ) (ds : List ℕ) (m : ℕ) → digitsFrom n ds ≡ Is m → Free b ds
+  unfolding digitsFrom
+  from-free n [] m e = tt
+  from-free n (d ∷ ds) m e = by (from-free (n * 10 + (d - 48)) ds m) e
+    where
+      P : Number → Type 0
+      P x = x ≡ Is m → Free b (d ∷ ds)
+
+      by : (digitsFrom (n * 10 + (d - 48)) ds ≡ Is m → Free b ds) → P (pick (ltb d 48) Not (pick (ltb 57 d) Not (digitsFrom (n * 10 + (d - 48)) ds)))
+      by ih = each-pick P (ltb d 48) (λ _ q. clash (cc)) (λ l. each-pick P (ltb 57 d) (λ _ q. clash (cc)) (λ _ q. (λ z. omega (arith, ltb-false d 48 l), ih q)))
+
+  of-free : (s : List ℕ) (m : ℕ) → digitsOf s ≡ Is m → Free b s
+  unfolding digitsOf
+  of-free s m = each-pick (λ x. x ≡ Is m → Free b s) (ltb 5 (length s)) (λ _ q. clash (cc)) (λ _. from-free 0 s m)
+
+  pub padded-free : (s : List ℕ) (m : ℕ) → paddedOf s ≡ Is m → Free b s
+  padded-free s m e = of-free s m (padded-digits s m e)
+
+  pub number-free : (s : List ℕ) (m : ℕ) → numberOf s ≡ Is m → Free b s
+  number-free s m e = padded-free s m (number-padded s m e)
 
 -- ---- the cut of a line
 

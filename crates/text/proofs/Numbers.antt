@@ -1,5 +1,5 @@
--- Numbers: what reading their digits says from place i on, and that `decimal` writes what `numberOf` reads and nothing else is read.
--- Assumes nothing.
+-- Numbers: what reading their digits says from place i on; that `decimal` writes what both readings of a number take; and that in a key
+-- nothing else is read. Assumes nothing.
 use mathlib.Core.Path.{_≡_, refl, sym, ap, _∙_}
 use mathlib.Core.Bool.{Bool, true, false}
 use mathlib.Core.List.{List, [], _∷_, _++_, append-assoc, append-nil}
@@ -13,7 +13,7 @@ use lib.ListN.{length, getD, drop}
 use lib.Seq.{drop-cons, drop-length}
 use borrow.Author.Tests.{lt-ltb, le-ltb, eq-eqb, ne-eqb}
 use Rattle.tables.specs.Choice.{pick}
-use Rattle.text.specs.Number.{digitsFrom, digitsOf, numberOf, onNumber}
+use Rattle.text.specs.Number.{digitsFrom, digitsOf, numberOf, paddedOf, onNumber}
 use Rattle.text.specs.Written.{decimalIn, decimal}
 use Rattle.text.specs.declared.number.Number.{Number}
 use Rattle.text.specs.declared.number.Number.the-variants.{Is, Not}
@@ -93,6 +93,17 @@ module _ (s : List ℕ) (n₀ : length s ≡ 0 → ⊥) (n₁ : length s ≡ 1 �
 
   pub number-more : (getD s 0 0 ≡ 48 → ⊥) → digitsOf s ≡ numberOf s
   number-more n = sym (number-long s n₀ n₁ ∙ rw (ne-eqb (getD s 0 0) 48 n))
+
+-- and one that may be padded
+pub padded-none : (s : List ℕ) → length s ≡ 0 → Not ≡ paddedOf s
+unfolding paddedOf
+padded-none [] e = refl
+padded-none (d ∷ ds) e = absurd (omega arith)
+
+pub padded-some : (s : List ℕ) → (length s ≡ 0 → ⊥) → digitsOf s ≡ paddedOf s
+unfolding paddedOf
+padded-some [] n = absurd (n refl)
+padded-some (d ∷ ds) n = refl
 
 -- one digit more
 digit-one : (v e : ℕ) → e < 10 → digitsFrom v ((48 + e) ∷ []) ≡ Is (v * 10 + e)
@@ -177,7 +188,7 @@ large-digits (suc f) n h =
     let t : 10 ^ suc f ≤ n / 10 = omega arith in
     rw (decimal-large f n (omega arith), digits-append, large-digits f (n / 10) t)
 
-pub digits-own : (a n : ℕ) → digitsOf (decimal a) ≡ Is n → a ≡ n
+digits-own : (a n : ℕ) → digitsOf (decimal a) ≡ Is n → a ≡ n
 unfolding decimal
 digits-own a n e = by (decLt a 100000) (sym (digits-all (decimalIn 4 a) (decimal-length 4 a .1)) ∙ e)
   where
@@ -195,8 +206,22 @@ number-digits [] n e = clash (cc)
 number-digits (d ∷ []) n e = e
 number-digits (d ∷ x ∷ ds) n e = zero-case d n (digitsOf (d ∷ x ∷ ds)) (ℕ-discrete d 48) e .1
 
-pub number-own : (a n : ℕ) → numberOf (decimal a) ≡ Is n → a ≡ n
-number-own a n e = digits-own a n (number-digits (decimal a) n e)
+-- every number of a key is one of a value
+pub number-padded : (s : List ℕ) (n : ℕ) → numberOf s ≡ Is n → paddedOf s ≡ Is n
+unfolding numberOf paddedOf
+number-padded [] n e = clash (cc)
+number-padded (d ∷ ds) n e = number-digits (d ∷ ds) n e
+
+pub padded-digits : (s : List ℕ) (n : ℕ) → paddedOf s ≡ Is n → digitsOf s ≡ Is n
+unfolding paddedOf
+padded-digits [] n e = clash (cc)
+padded-digits (d ∷ ds) n e = e
+
+pub padded-written : (n : ℕ) → n < 100000 → paddedOf (decimal n) ≡ Is n
+padded-written n h = number-padded (decimal n) n (number-written n h)
+
+pub padded-own : (a n : ℕ) → paddedOf (decimal a) ≡ Is n → a ≡ n
+padded-own a n e = digits-own a n (padded-digits (decimal a) n e)
 
 -- ---- nothing else is read
 digit-case : (d : ℕ) (x : Number) (n : ℕ) → Dec (d < 48) → Dec (57 < d) → pick (ltb d 48) Not (pick (ltb 57 d) Not x) ≡ Is n → (48 ≤ d) × (d ≤ 57) × (x ≡ Is n)

@@ -5,7 +5,7 @@ use lib.Dec.{ltb}
 use Rattle.tables.specs.Refusal.{numbered}
 use Rattle.tables.specs.Choice.{pick}
 use Rattle.tables.specs.declared.refusal.Reason.{Reason}
-use Rattle.text.specs.Number.{numberOf, onNumber}
+use Rattle.text.specs.Number.{paddedOf, onNumber}
 use Rattle.text.specs.Result.{Parsed, Next}
 use Rattle.text.specs.Result.Parsed.{good, bad}
 use Rattle.text.specs.declared.line.Counted.{Counted}
@@ -14,7 +14,7 @@ use Rattle.text.specs.declared.line.Counted.the-variants.{Count, Wrong}
 -- what is no number is not of its form; a number outside has the given reason
 unfoldable pub countForm : ℕ → ℕ → Reason → List ℕ → Parsed ℕ
 countForm low high outside value =
-    onNumber (numberOf value) (bad (numbered 2)) λ n.
+    onNumber (paddedOf value) (bad (numbered 2)) λ n.
     pick (ltb n low) (bad outside) (pick (ltb high n) (bad outside) (good n))
 
 -- what each case of the code's answer says

@@ -57,7 +57,7 @@ pub fn count_line(rest: &[u8], key: &[u8], low: usize, high: usize, outside: Rea
     if !crate::search::same(&rest[..equals], key) {
         return Counted::Wrong(Reason::WrongForm);
     }
-    let Number::Is(n) = crate::number::read_number(&rest[equals + 1..end]) else {
+    let Number::Is(n) = crate::number::read_padded(&rest[equals + 1..end]) else {
         return Counted::Wrong(Reason::WrongForm);
     };
     if n < low {

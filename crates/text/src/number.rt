@@ -1,6 +1,6 @@
 // Numbers as the files write them.
 ghost use mathlib.Core.Path.{_≡_};
-ghost use Rattle.text.specs.Number.{digitsOf, numberOf};
+ghost use Rattle.text.specs.Number.{digitsOf, numberOf, paddedOf};
 
 // A number as the files write it, or that the bytes are none.
 pub enum Number {
@@ -31,7 +31,7 @@ fn read_digits(s: &[u8]) -> Number
     Number::Is(value)
 }
 
-// A number: one to five digits, without leading zeros.
+// A number in a key: one to five digits, without leading zeros.
 pub fn read_number(s: &[u8]) -> Number
     ensures answer { λ r. ⌜ r ≡ numberOf (now (s .entry)) ⌝ }
 {
@@ -42,6 +42,16 @@ pub fn read_number(s: &[u8]) -> Number
         return read_digits(s);
     }
     if s[0] == b'0' {
+        return Number::Not;
+    }
+    read_digits(s)
+}
+
+// A number in a value: one to five digits, the first of which may be zeros.
+pub fn read_padded(s: &[u8]) -> Number
+    ensures answer { λ r. ⌜ r ≡ paddedOf (now (s .entry)) ⌝ }
+{
+    if s.len() == 0 {
         return Number::Not;
     }
     read_digits(s)

@@ -34,7 +34,7 @@ returns-2 c =
       know (find .ensures) (space .given .1),
       know (rw rest-part at (find2 .ensures)) (c .before .before .before .enum-told2 .given .1),
       know (rw
-          rest-part at (c .before .before .read-number .ensures)) (c .enum-told3 .given .1),
+          rest-part at (c .before .before .read-padded .ensures)) (c .enum-told3 .given .1),
     )
 
 returns-3 : tie.Need-returns-3
@@ -44,16 +44,16 @@ returns-3 c =
     let space = c .before .before .before .before .before .before .before .before .before .before .before .space in
     let find2 = c .before .before .before .before .before .before .before .find2 in
     let enum-told2 = c .before .before .before .before .before .enum-told2 in
-    let read-number = c .before .before .before .before .read-number in
+    let read-padded = c .before .before .before .before .read-padded in
     c .form-of2 .ensures ∙ rw (
       know (find .ensures) (space .given .1),
       know (rw rest-part at (find2 .ensures)) (enum-told2 .given .1),
       know (rw
-          rest-part at (read-number .ensures)) (c .before .before .only .given .1),
+          rest-part at (read-padded .ensures)) (c .before .before .only .given .1),
     )
 
-slice-aggregate-read-number : tie.Need-slice-aggregate-read-number
-slice-aggregate-read-number c = simp length-take (omega (arith, simp length-take at (found _ _ 0 (c .before .before .before .before .find2 .ensures) (c .before .before .between .given .1) .below)))
+slice-aggregate-read-padded : tie.Need-slice-aggregate-read-padded
+slice-aggregate-read-padded c = simp length-take (omega (arith, simp length-take at (found _ _ 0 (c .before .before .before .before .find2 .ensures) (c .before .before .between .given .1) .below)))
 
 returns-4 : tie.Need-returns-4
 unfolding rowForm
@@ -66,23 +66,23 @@ returns-4 c =
       know (find .ensures) (space .given .1),
       know (rw rest-part at (find2 .ensures)) (between .given .1),
       know (rw rest-part at (c .before .before
-          .read-number2 .ensures)) (c .enum-told4 .given .1),
+          .read-padded2 .ensures)) (c .enum-told4 .given .1),
     )
 
-add-read-number : tie.Need-add-read-number
-add-read-number c =
+add-read-padded : tie.Need-add-read-padded
+add-read-padded c =
     let find2 = c .before .before .before .before .before .before .before .before .find2 in
     let between = c .before .before .before .before .before .before .between in
     omega (arith, found _ _ 0 (find2 .ensures) (between .given .1) .below)
 
-sub-read-number : tie.Need-sub-read-number
-sub-read-number c =
+sub-read-padded : tie.Need-sub-read-padded
+sub-read-padded c =
     let find2 = c .before .before .before .before .before .before .before .before .find2 in
     let between = c .before .before .before .before .before .before .between in
     omega (arith, found _ _ 0 (find2 .ensures) (between .given .1) .below)
 
-part-read-number-start : tie.Need-part-read-number-start
-part-read-number-start c =
+part-read-padded-start : tie.Need-part-read-padded-start
+part-read-padded-start c =
     let find2 = c .before .before .before .before .before .before .before .before .find2 in
     let between = c .before .before .before .before .before .before .between in
     omega (arith, found _ _ 0 (find2 .ensures) (between .given .1) .below)
@@ -94,14 +94,14 @@ returns-5 c =
     let space = c .before .before .before .before .before .before .before .before .before .before .before .before .before .before .before .before .space in
     let find2 = c .before .before .before .before .before .before .before .before .before .before .before .before .find2 in
     let between = c .before .before .before .before .before .before .before .before .before .before .between in
-    let read-number2 = c .before .before .before .before .before .before .before .read-number2 in
+    let read-padded2 = c .before .before .before .before .before .before .before .read-padded2 in
     let first = c .before .before .before .before .before .first in
     rw (
       know (find .ensures) (space .given .1),
       know (rw rest-part at (find2 .ensures)) (between .given .1),
-      know (rw rest-part at (read-number2
+      know (rw rest-part at (read-padded2
           .ensures)) (first .given .1),
-      know (simp rest-part at (c .before .before .read-number3 .ensures)) (c .enum-told5 .given .1),
+      know (simp rest-part at (c .before .before .read-padded3 .ensures)) (c .enum-told5 .given .1),
     )
 
 returns-6 : tie.Need-returns-6
@@ -111,15 +111,15 @@ returns-6 c =
     let space = c .before .before .before .before .before .before .before .before .before .before .before .before .before .before .before .before .before .before .space in
     let find2 = c .before .before .before .before .before .before .before .before .before .before .before .before .before .before .find2 in
     let between = c .before .before .before .before .before .before .before .before .before .before .before .before .between in
-    let read-number2 = c .before .before .before .before .before .before .before .before .before .read-number2 in
+    let read-padded2 = c .before .before .before .before .before .before .before .before .before .read-padded2 in
     let first = c .before .before .before .before .before .before .before .first in
-    let read-number3 = c .before .before .before .before .read-number3 in
+    let read-padded3 = c .before .before .before .before .read-padded3 in
     c .form-of3 .ensures ∙ rw (
       know (find .ensures) (space .given .1),
       know (rw rest-part at (find2 .ensures)) (between .given .1),
       know (rw
-          rest-part at (read-number2 .ensures)) (first .given .1),
-      know (simp rest-part at (read-number3 .ensures)) (c .before .before .second .given .1),
+          rest-part at (read-padded2 .ensures)) (first .given .1),
+      know (simp rest-part at (read-padded3 .ensures)) (c .before .before .second .given .1),
     )
 
 pub row-form-spec : {M : Type 1} → statement M
@@ -145,14 +145,14 @@ row-form-spec =
     returns-2
     (λ c κs. search needs)
     returns-3
-    slice-aggregate-read-number
+    slice-aggregate-read-padded
     (λ c κs. search needs)
     (λ c. search needs)
     (λ c. search needs)
     returns-4
-    add-read-number
-    sub-read-number
-    part-read-number-start
+    add-read-padded
+    sub-read-padded
+    part-read-padded-start
     (λ c. search needs)
     (λ c κs. search needs)
     (λ c. search needs)

@@ -55,7 +55,7 @@ returns-4 c =
     let if1 = c .before .before .before .before .before .before .before .if1 in
     let same2 = c .before .before .before .before .same2 in
     sym (keyed-bad _ _ _ (know (cut-line .ensures) (equals .given .1)) (know (same .ensures) (not-false _ (if1 .left))) (ending-formless _ _ (know
-    (same2 .ensures) (c .before .before .before .if2 .left)) (know (c .before .before .read-number .ensures) (c .enum-told2 .given .1))))
+    (same2 .ensures) (c .before .before .before .if2 .left)) (know (c .before .before .read-padded .ensures) (c .enum-told2 .given .1))))
 
 returns-5 : tie.Need-returns-5
 returns-5 c =
@@ -65,9 +65,9 @@ returns-5 c =
     let if1 = c .before .before .before .before .before .before .before .before .before .if1 in
     let same2 = c .before .before .before .before .before .before .same2 in
     let if2 = c .before .before .before .before .before .if2 in
-    let read-number = c .before .before .before .before .read-number in
+    let read-padded = c .before .before .before .before .read-padded in
     sym (keyed-bad _ _ _ (know (cut-line .ensures) (equals .given .1)) (know (same .ensures) (not-false _ (if1 .left))) (ending-beyond _ _ (know
-    (same2 .ensures) (if2 .left)) (know (read-number .ensures) (c .before .before .cycle .given .1)) (search needs)))
+    (same2 .ensures) (if2 .left)) (know (read-padded .ensures) (c .before .before .cycle .given .1)) (search needs)))
 
 add-t18 : tie.Need-add-t18
 add-t18 c =
@@ -83,9 +83,9 @@ returns-6 c =
     let if1 = c .before .before .before .before .before .before .before .before .before .if1 in
     let same2 = c .before .before .before .before .before .before .same2 in
     let if2 = c .before .before .before .before .before .if2 in
-    let read-number = c .before .before .before .before .read-number in
+    let read-padded = c .before .before .before .before .read-padded in
     sym (keyed-good _ _ _ (know (cut-line .ensures) (equals .given .1)) (know (same .ensures) (not-false _ (if1 .left))) (ending-loop _ _ (know
-    (same2 .ensures) (if2 .left)) (know (read-number .ensures) (c .before .before .cycle .given .1)) (search needs)))
+    (same2 .ensures) (if2 .left)) (know (read-padded .ensures) (c .before .before .cycle .given .1)) (search needs)))
 
 pub ending-line-spec : {M : Type 1} → statement M
 ending-line-spec =

@@ -18,32 +18,32 @@ slice-aggregate-same c = simp length-take (omega (arith, cut-known _ (c .before 
 returns-2 : tie.Need-returns-2
 returns-2 c = sym (keyed-other _ _ _ (know (c .before .before .before .before .before .before .cut-line .ensures) (c .before .before .before .before .equals .given .1)) (know (c .before .same .ensures) (not-true _ (c .if1 .taken))))
 
-add-read-number : tie.Need-add-read-number
-add-read-number c = omega (arith, cut-known _ (c .before .before .before .before .before .before .cut-line .ensures) (c .before .before .before .before .equals .given .1))
+add-read-padded : tie.Need-add-read-padded
+add-read-padded c = omega (arith, cut-known _ (c .before .before .before .before .before .before .cut-line .ensures) (c .before .before .before .before .equals .given .1))
 
-sub-read-number : tie.Need-sub-read-number
-sub-read-number c = omega (arith, cut-known _ (c .before .before .before .before .before .before .cut-line .ensures) (c .before .before .before .before .equals .given .1))
+sub-read-padded : tie.Need-sub-read-padded
+sub-read-padded c = omega (arith, cut-known _ (c .before .before .before .before .before .before .cut-line .ensures) (c .before .before .before .before .equals .given .1))
 
-part-read-number-start : tie.Need-part-read-number-start
-part-read-number-start c = omega (arith, cut-known _ (c .before .before .before .before .before .before .cut-line .ensures) (c .before .before .before .before .equals .given .1))
+part-read-padded-start : tie.Need-part-read-padded-start
+part-read-padded-start c = omega (arith, cut-known _ (c .before .before .before .before .before .before .cut-line .ensures) (c .before .before .before .before .equals .given .1))
 
-part-read-number-end : tie.Need-part-read-number-end
-part-read-number-end c = omega (arith, cut-known _ (c .before .before .before .before .before .before .cut-line .ensures) (c .before .before .before .before .equals .given .1))
+part-read-padded-end : tie.Need-part-read-padded-end
+part-read-padded-end c = omega (arith, cut-known _ (c .before .before .before .before .before .before .cut-line .ensures) (c .before .before .before .before .equals .given .1))
 
 returns-3 : tie.Need-returns-3
-returns-3 c = sym (keyed-bad _ _ _ (know (c .before .before .before .before .before .before .before .before .before .before .cut-line .ensures) (c .before .before .before .before .before .before .before .before .equals .given .1)) (know (c .before .before .before .before .before .same .ensures) (not-false _ (c .before .before .before .before .if1 .left))) (value-no-number _ _ _ _ (know (c .before .before .read-number .ensures) (c .enum-told2 .given .1))))
+returns-3 c = sym (keyed-bad _ _ _ (know (c .before .before .before .before .before .before .before .before .before .before .cut-line .ensures) (c .before .before .before .before .before .before .before .before .equals .given .1)) (know (c .before .before .before .before .before .same .ensures) (not-false _ (c .before .before .before .before .if1 .left))) (value-no-number _ _ _ _ (know (c .before .before .read-padded .ensures) (c .enum-told2 .given .1))))
 
 returns-4 : tie.Need-returns-4
-returns-4 c = sym (keyed-bad _ _ _ (know (c .before .before .before .before .before .before .before .before .before .before .before .before .cut-line .ensures) (c .before .before .before .before .before .before .before .before .before .before .equals .given .1)) (know (c .before .before .before .before .before .before .before .same .ensures) (not-false _ (c .before .before .before .before .before .before .if1 .left))) (value-below (c .before .before .before .before .before .before .before .before .before .before .before .before .before .before .before .args .low) _ _ _ (know (c .before .before .before .before .read-number .ensures) (c .before .before .n .given .1)) (c .if2 .taken)))
+returns-4 c = sym (keyed-bad _ _ _ (know (c .before .before .before .before .before .before .before .before .before .before .before .before .cut-line .ensures) (c .before .before .before .before .before .before .before .before .before .before .equals .given .1)) (know (c .before .before .before .before .before .before .before .same .ensures) (not-false _ (c .before .before .before .before .before .before .if1 .left))) (value-below (c .before .before .before .before .before .before .before .before .before .before .before .before .before .before .before .args .low) _ _ _ (know (c .before .before .before .before .read-padded .ensures) (c .before .before .n .given .1)) (c .if2 .taken)))
 
 returns-5 : tie.Need-returns-5
-returns-5 c = sym (keyed-bad _ _ _ (know (c .before .before .before .before .before .before .before .before .before .before .before .before .before .cut-line .ensures) (c .before .before .before .before .before .before .before .before .before .before .before .equals .given .1)) (know (c .before .before .before .before .before .before .before .before .same .ensures) (not-false _ (c .before .before .before .before .before .before .before .if1 .left))) (value-above _ _ _ _ (know (c .before .before .before .before .before .read-number .ensures) (c .before .before .before .n .given .1)) (c .before .if2 .left) (c .if3 .taken)))
+returns-5 c = sym (keyed-bad _ _ _ (know (c .before .before .before .before .before .before .before .before .before .before .before .before .before .cut-line .ensures) (c .before .before .before .before .before .before .before .before .before .before .before .equals .given .1)) (know (c .before .before .before .before .before .before .before .before .same .ensures) (not-false _ (c .before .before .before .before .before .before .before .if1 .left))) (value-above _ _ _ _ (know (c .before .before .before .before .before .read-padded .ensures) (c .before .before .before .n .given .1)) (c .before .if2 .left) (c .if3 .taken)))
 
 add-t17 : tie.Need-add-t17
 add-t17 c = omega (arith, cut-known _ (c .before .before .before .before .before .before .before .before .before .before .before .before .before .cut-line .ensures) (c .before .before .before .before .before .before .before .before .before .before .before .equals .given .1))
 
 returns-6 : tie.Need-returns-6
-returns-6 c = sym (keyed-good _ _ _ (know (c .before .before .before .before .before .before .before .before .before .before .before .before .before .cut-line .ensures) (c .before .before .before .before .before .before .before .before .before .before .before .equals .given .1)) (know (c .before .before .before .before .before .before .before .before .same .ensures) (not-false _ (c .before .before .before .before .before .before .before .if1 .left))) (value-within _ (c .before .before .before .before .before .before .before .before .before .before .before .before .before .before .before .before .args .high) _ _ (know (c .before .before .before .before .before .read-number .ensures) (c .before .before .before .n .given .1)) (c .before .if2 .left) (c .if3 .left)))
+returns-6 c = sym (keyed-good _ _ _ (know (c .before .before .before .before .before .before .before .before .before .before .before .before .before .cut-line .ensures) (c .before .before .before .before .before .before .before .before .before .before .before .equals .given .1)) (know (c .before .before .before .before .before .before .before .before .same .ensures) (not-false _ (c .before .before .before .before .before .before .before .if1 .left))) (value-within _ (c .before .before .before .before .before .before .before .before .before .before .before .before .before .before .before .before .args .high) _ _ (know (c .before .before .before .before .before .read-padded .ensures) (c .before .before .before .n .given .1)) (c .before .if2 .left) (c .if3 .left)))
 
 pub count-line-spec : {M : Type 1} → statement M
 count-line-spec =
@@ -56,10 +56,10 @@ count-line-spec =
     slice-aggregate-same
     (λ c κs. search needs)
     returns-2
-    add-read-number
-    sub-read-number
-    part-read-number-start
-    part-read-number-end
+    add-read-padded
+    sub-read-padded
+    part-read-padded-start
+    part-read-padded-end
     (λ c κs. search needs)
     (λ c. search needs)
     (λ c. search needs)
