@@ -15,7 +15,7 @@ use Rattle.text.specs.Number.{digitsFrom, digitsOf, paddedOf}
 use Rattle.text.specs.Written.{decimal}
 use Rattle.text.specs.declared.number.Number.{Number}
 use Rattle.text.specs.declared.number.Number.the-variants.{Is, Not}
-use Rattle.text.proofs.Numbers.{number-one, number-more, number-read, padded-written, padded-digits}
+use Rattle.text.proofs.Numbers.{number-short, number-kept, number-read, padded-written, padded-digits}
 use Rattle.text.proofs.Laws.{decimal-length}
 use Rattle.padding.specs.Padding.{isDigit, Before, Before.start, Before.digit, Before.other, behind, isPadding, beginsWithDigit, unpaddedFrom, digitsAhead, FiveFrom}
 use Rattle.padding.proofs.Bytes.{PaddedFrom, noNumber, after, kept, five-kept, five-behind, back, cons-rest}
@@ -95,7 +95,7 @@ number-plain : (v : List ℕ) (n x : ℕ) (s : List ℕ) → paddedOf v ≡ Is n
     → unpaddedFrom start (v ++ (x ∷ s)) ≡ decimal n ++ (x ∷ unpaddedFrom (behind digit x) s)
 number-plain [] n x s e d = clash (unfold paddedOf in cc)
 number-plain (y ∷ []) n x s e d =
-    let z : y ∷ [] ≡ decimal n = number-read (y ∷ []) n (sym (number-one (y ∷ []) refl) ∙ padded-digits (y ∷ []) n e) in
+    let z : y ∷ [] ≡ decimal n = number-read (y ∷ []) n (sym (number-short (y ∷ []) (omega arith)) ∙ e) in
     let q : isPadding start y (x ∷ s) ≡ false = rw d (each-pick (λ t. t ≡ false) (eqb y 48) (λ _. refl) (λ _. refl)) in
     first-kept y [] x s q (digits-in (y ∷ []) n e .all) d ∙ ap (λ m. m ++ (x ∷ unpaddedFrom (behind digit x) s)) z
 number-plain (y ∷ z ∷ v) n x s e d = by (ℕ-discrete y 48) (λ q. number-plain (z ∷ v) n x s q d)
@@ -113,7 +113,7 @@ number-plain (y ∷ z ∷ v) n x s e d = by (ℕ-discrete y 48) (λ q. number-pl
         taken y ((z ∷ v) ++ (x ∷ s)) t ∙ ih (zero-off z v n (rw q at e))
     by (no q) ih =
         let r : y ∷ z ∷ v ≡ decimal n =
-        number-read (y ∷ z ∷ v) n (sym (number-more (y ∷ z ∷ v) (λ k. omega arith) (λ k. omega arith) q) ∙ padded-digits (y ∷ z ∷ v) n e) in
+        number-read (y ∷ z ∷ v) n (sym (number-kept (y ∷ z ∷ v) (omega arith) q) ∙ e) in
         let t : isPadding start y ((z ∷ v) ++ (x ∷ s)) ≡ false = rw (ne-eqb y 48 q) in
         first-kept y (z ∷ v) x s t all d ∙ ap (λ m. m ++ (x ∷ unpaddedFrom (behind digit x) s)) r
 

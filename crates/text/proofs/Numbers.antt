@@ -69,32 +69,7 @@ module _ {s : List ℕ} {v i : ℕ} (inv : DigitsAt s v i) where
           goes = rw (inv .goes, drop-cons s i 0 h, le-ltb (getD s i 0) 48 l, le-ltb 57 (getD s i 0) u, add-one);
         }
 
--- a number by the length of its text
-pub number-none : (s : List ℕ) → length s ≡ 0 → Not ≡ numberOf s
-unfolding numberOf
-number-none [] e = refl
-number-none (d ∷ ds) e = absurd (omega arith)
-
-pub number-one : (s : List ℕ) → length s ≡ 1 → digitsOf s ≡ numberOf s
-unfolding numberOf
-number-one [] e = absurd (omega arith)
-number-one (d ∷ []) e = refl
-number-one (d ∷ x ∷ ds) e = absurd (omega arith)
-
-number-long : (s : List ℕ) → (length s ≡ 0 → ⊥) → (length s ≡ 1 → ⊥) → numberOf s ≡ pick (eqb (getD s 0 0) 48) Not (digitsOf s)
-unfolding numberOf
-number-long [] n₀ n₁ = absurd (n₀ refl)
-number-long (d ∷ []) n₀ n₁ = absurd (n₁ refl)
-number-long (d ∷ x ∷ ds) n₀ n₁ = refl
-
-module _ (s : List ℕ) (n₀ : length s ≡ 0 → ⊥) (n₁ : length s ≡ 1 → ⊥) where
-  pub number-zero : getD s 0 0 ≡ 48 → Not ≡ numberOf s
-  number-zero e = sym (number-long s n₀ n₁ ∙ rw (eq-eqb (getD s 0 0) 48 e))
-
-  pub number-more : (getD s 0 0 ≡ 48 → ⊥) → digitsOf s ≡ numberOf s
-  number-more n = sym (number-long s n₀ n₁ ∙ rw (ne-eqb (getD s 0 0) 48 n))
-
--- and one that may be padded
+-- a number in a value by the length of its text
 pub padded-none : (s : List ℕ) → length s ≡ 0 → Not ≡ paddedOf s
 unfolding paddedOf
 padded-none [] e = refl
@@ -104,6 +79,26 @@ pub padded-some : (s : List ℕ) → (length s ≡ 0 → ⊥) → digitsOf s ≡
 unfolding paddedOf
 padded-some [] n = absurd (n refl)
 padded-some (d ∷ ds) n = refl
+
+-- and one in a key: the same, but for a zero before another digit
+pub number-short : (s : List ℕ) → length s ≤ 1 → paddedOf s ≡ numberOf s
+unfolding numberOf paddedOf
+number-short [] h = refl
+number-short (d ∷ []) h = refl
+number-short (d ∷ x ∷ ds) h = absurd (omega arith)
+
+number-long : (s : List ℕ) → 1 < length s → numberOf s ≡ pick (eqb (getD s 0 0) 48) Not (paddedOf s)
+unfolding numberOf paddedOf
+number-long [] h = absurd (omega arith)
+number-long (d ∷ []) h = absurd (omega arith)
+number-long (d ∷ x ∷ ds) h = refl
+
+module _ (s : List ℕ) (h : 1 < length s) where
+  pub number-zero : getD s 0 0 ≡ 48 → Not ≡ numberOf s
+  number-zero e = sym (number-long s h ∙ rw (eq-eqb (getD s 0 0) 48 e))
+
+  pub number-kept : (getD s 0 0 ≡ 48 → ⊥) → paddedOf s ≡ numberOf s
+  number-kept n = sym (number-long s h ∙ rw (ne-eqb (getD s 0 0) 48 n))
 
 -- one digit more
 digit-one : (v e : ℕ) → e < 10 → digitsFrom v ((48 + e) ∷ []) ≡ Is (v * 10 + e)
@@ -162,17 +157,21 @@ digits-all : (s : List ℕ) → length s ≤ 5 → digitsOf s ≡ digitsFrom 0 s
 unfolding digitsOf
 digits-all s h = rw (le-ltb 5 (length s) h)
 
-written-step : (n : ℕ) → n < 100000 → Dec (n < 10) → digitsOf (decimalIn 4 n) ≡ numberOf (decimalIn 4 n)
-written-step n h (yes l) = number-one (decimalIn 4 n) (rw (decimal-small 4 n l))
+written-step : (n : ℕ) → n < 100000 → Dec (n < 10) → paddedOf (decimalIn 4 n) ≡ numberOf (decimalIn 4 n)
+written-step n h (yes l) = number-short (decimalIn 4 n) (rw (decimal-small 4 n l) (omega arith))
 written-step n h (no g) =
     let w = length-step 3 n (decimal-length 3 (n / 10)) (decLt n 10) in
-    let l : 2 ≤ length (decimalIn 4 n) = w .2 (omega arith) in
-    number-more (decimalIn 4 n) (λ e. omega arith) (λ e. omega arith) (λ e. decimal-head 4 n (omega arith) (omega arith) e)
+    number-kept (decimalIn 4 n) (w .2 (omega arith)) (λ e. decimal-head 4 n (omega arith) (omega arith) e)
+
+pub padded-written : (n : ℕ) → n < 100000 → paddedOf (decimal n) ≡ Is n
+unfolding decimal
+padded-written n h =
+    let l = decimal-length 4 n in
+    sym (padded-some (decimalIn 4 n) (λ e. omega (arith, l .0))) ∙ (digits-all (decimalIn 4 n) (l .1) ∙ written-digits 4 n (omega arith))
 
 pub number-written : (n : ℕ) → n < 100000 → numberOf (decimal n) ≡ Is n
 unfolding decimal
-number-written n h =
-    sym (written-step n h (decLt n 10)) ∙ (digits-all (decimalIn 4 n) (decimal-length 4 n .1) ∙ written-digits 4 n (omega arith))
+number-written n h = sym (written-step n h (decLt n 10)) ∙ padded-written n h
 
 -- ---- a written number is read as itself, also one of more than five digits, where it is read at all
 
@@ -216,9 +215,6 @@ pub padded-digits : (s : List ℕ) (n : ℕ) → paddedOf s ≡ Is n → digitsO
 unfolding paddedOf
 padded-digits [] n e = clash (cc)
 padded-digits (d ∷ ds) n e = e
-
-pub padded-written : (n : ℕ) → n < 100000 → paddedOf (decimal n) ≡ Is n
-padded-written n h = number-padded (decimal n) n (number-written n h)
 
 pub padded-own : (a n : ℕ) → paddedOf (decimal a) ≡ Is n → a ≡ n
 padded-own a n e = digits-own a n (padded-digits (decimal a) n e)

@@ -31,22 +31,6 @@ fn read_digits(s: &[u8]) -> Number
     Number::Is(value)
 }
 
-// A number in a key: one to five digits, without leading zeros.
-pub fn read_number(s: &[u8]) -> Number
-    ensures answer { λ r. ⌜ r ≡ numberOf (now (s .entry)) ⌝ }
-{
-    if s.len() == 0 {
-        return Number::Not;
-    }
-    if s.len() == 1 {
-        return read_digits(s);
-    }
-    if s[0] == b'0' {
-        return Number::Not;
-    }
-    read_digits(s)
-}
-
 // A number in a value: one to five digits, the first of which may be zeros.
 pub fn read_padded(s: &[u8]) -> Number
     ensures answer { λ r. ⌜ r ≡ paddedOf (now (s .entry)) ⌝ }
@@ -55,4 +39,16 @@ pub fn read_padded(s: &[u8]) -> Number
         return Number::Not;
     }
     read_digits(s)
+}
+
+// A number in a key: no zero stands before another digit.
+pub fn read_number(s: &[u8]) -> Number
+    ensures answer { λ r. ⌜ r ≡ numberOf (now (s .entry)) ⌝ }
+{
+    if 1 < s.len() {
+        if s[0] == b'0' {
+            return Number::Not;
+        }
+    }
+    read_padded(s)
 }
