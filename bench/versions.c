@@ -23,15 +23,17 @@
 typedef uint64_t function(
     uintptr_t, uintptr_t, uintptr_t, uintptr_t, uintptr_t, uintptr_t, uintptr_t, uintptr_t, uintptr_t, uintptr_t);
 
-#define FUNCTIONS(EACH)                                                                                                       \
-    EACH(read_rule, 1) EACH(read_take, 1) EACH(read_sheet, 1) EACH(bound, 1) EACH(rows, 1) EACH(normal, 1) EACH(judge, 2)         \
-    EACH(judge_looped, 2) EACH(judge_open, 2) EACH(judge_text, 2) EACH(step, 4) EACH(make_sheet, 2) EACH(check_sheet, 3)            \
+/* The functions that read files, with the number of their inputs. */
+#define FUNCTIONS(EACH)                                                                                                   \
+    EACH(read_rule, 1) EACH(read_take, 1) EACH(read_sheet, 1) EACH(bound, 1) EACH(rows, 1) EACH(normal, 1) EACH(judge, 2) \
+    EACH(judge_looped, 2) EACH(judge_open, 2) EACH(judge_text, 2) EACH(step, 4) EACH(make_sheet, 2) EACH(check_sheet, 3)  \
     EACH(run_begin, 1)
 
 #define DECLARED(name, inputs) uint64_t other_citronhelm_##name(void);
 FUNCTIONS(DECLARED)
 
-#define LISTED(name, inputs) {#name, inputs, {(function *)(void (*)(void))citronhelm_##name, (function *)(void (*)(void))other_citronhelm_##name}},
+#define WORDWISE(name) (function *)(void (*)(void))name
+#define LISTED(name, inputs) {#name, inputs, {WORDWISE(citronhelm_##name), WORDWISE(other_citronhelm_##name)}},
 static const struct {
     const char *name;
     int inputs;
