@@ -23,15 +23,18 @@ use Rattle.tables.specs.declared.row.RowPlace.{RowPlace}
 use Rattle.tables.specs.declared.row.Formula.{Formula}
 use Rattle.text.specs.Line.{isKey, keyedLine}
 use Rattle.text.specs.Count.{countForm}
+use Rattle.text.specs.Number.{paddedOf}
 use Rattle.text.specs.Body.{bodyLines, EachAt}
 use Rattle.text.specs.Result.{Result, onLine, mapResult, outcomeOf}
 use Rattle.text.specs.Result.Parsed.{good}
 use Rattle.text.specs.Result.Result.{accepted, refused}
 use Rattle.text.specs.Written.{decimal, writtenLine, writtenBody}
+use Rattle.text.specs.declared.number.Number.the-variants.{Is}
 use Rattle.tables.proofs.Choices.{clash}
+use Rattle.text.proofs.Numbers.{padded-written}
 use Rattle.text.proofs.Lines.{Free}
 use Rattle.text.proofs.Bodies.{body-starts, body-surplus, body-line, body-written, body-valid}
-use Rattle.text.proofs.Headers.{CountThen, count-then, count-in, count-below, count-above, count-range, map-accepted, test-accepted, outcome-accepted, parsed-accepted}
+use Rattle.text.proofs.Headers.{CountThen, count-then, count-padded, count-in, count-below, count-above, count-range, map-accepted, test-accepted, outcome-accepted, parsed-accepted}
 use Rattle.text.proofs.Laws.{decimal-short, count-short, body-short}
 use Rattle.text.proofs.Answered.{accepted-table}
 use Rattle.text.proofs.RefusedLines.{RefusedBy, map-by, test-by, count-by, body-by, refused-line, outcome-line}
@@ -123,13 +126,29 @@ module _ (f : Formula) (short : length (rowsOf f) ≤ 64) (hs : f .signals < 100
 -- ---- the theorems
 
 -- a row of a formula, in its place
-abbrev RowOk : ℕ → ℕ → Row → Type 0
+abbrev pub RowOk : ℕ → ℕ → Row → Type 0
 RowOk signals k r = inRange signals k r ≡ true
 
-row-reads : (signals : ℕ) → signals ≤ 32 → (k : ℕ) (r : Row) → k < 100000 → RowOk signals k r → (rowValue signals k (writtenRow r) ≡ good r) × Free 10 (writtenRow r)
+pub row-reads : (signals : ℕ) → signals ≤ 32 → (k : ℕ) (r : Row) → k < 100000 → RowOk signals k r → (rowValue signals k (writtenRow r) ≡ good r) × Free 10 (writtenRow r)
 row-reads signals hs k r h e =
     let s : Small r = range-small signals k hs (omega arith) r e in
     (value-written signals k r s ∙ rw e, row-free r s)
+
+-- lines of counts, padded or not, and of rows that are read
+pub lines-read : {A : Type 0} (most : ℕ) (table : ℕ → ℕ → List Row → A) (signals rows : ℕ) (rs : List Row) (one-text signals-text rows-text body : List ℕ)
+    → paddedOf one-text ≡ Is 1 → paddedOf signals-text ≡ Is signals → paddedOf rows-text ≡ Is rows
+    → 1 ≤ signals → signals ≤ 32 → 1 ≤ rows → rows ≤ most → bodyLines 114 (rowValue signals) rows 1 4 body ≡ accepted rs
+    → ruleLines most table (writtenLine (bytes "format") one-text (writtenLine (bytes "signals") signals-text (writtenLine (bytes "rows") rows-text body)))
+    ≡ accepted (table signals rows rs)
+lines-read {A} most table signals rows rs one-text signals-text rows-text body o s m s₁ s₂ m₁ m₂ b =
+    let rows-line : List ℕ = writtenLine (bytes "rows") rows-text body in
+    let behind-rows : ℕ → ℕ → List ℕ → Result A = λ signals rows rest. mapResult (table signals rows) (bodyLines 114 (rowValue signals) rows 1 4 rest) in
+    let behind-signals : ℕ → List ℕ → Result A = λ signals rest. onLine 3 (keyedLine (isKey (bytes "rows")) (countForm 1 most CountOutOfRange)) rest (behind-rows signals) in
+    let behind-format : ℕ → List ℕ → Result A = λ one rest. onLine 2 (keyedLine (isKey (bytes "signals")) (countForm 1 32 CountOutOfRange)) rest behind-signals in
+    count-padded (bytes "format") 1 1 WrongFormat 1 behind-format refl refl 1 (writtenLine (bytes "signals") signals-text rows-line) one-text o (omega arith) (omega arith)
+    ∙ (count-padded (bytes "signals") 1 32 CountOutOfRange 2 behind-signals refl refl signals rows-line signals-text s s₁ s₂
+    ∙ (count-padded (bytes "rows") 1 most CountOutOfRange 3 (behind-rows signals) refl refl rows body rows-text m m₁ m₂
+    ∙ ap (mapResult (table signals rows)) b))
 
 -- rows in range, written as a rule file, are read back
 pub text-read : {A : Type 0} (most : ℕ) (table : ℕ → ℕ → List Row → A) (signals rows : ℕ) (rs : List Row) → most ≤ 1000
@@ -137,26 +156,26 @@ pub text-read : {A : Type 0} (most : ℕ) (table : ℕ → ℕ → List Row → 
     → ruleLines most table (ruleText signals rows rs) ≡ accepted (table signals rows rs)
 text-read {A} most table signals rows rs small s₁ s₂ m₁ m₂ n ok =
     let body : List ℕ = writtenBody 114 writtenRow 1 rs in
-    let rows-line : List ℕ = writtenLine (bytes "rows") (decimal rows) body in
-    let behind-rows : ℕ → ℕ → List ℕ → Result A = λ signals rows rest. mapResult (table signals rows) (bodyLines 114 (rowValue signals) rows 1 4 rest) in
-    let behind-signals : ℕ → List ℕ → Result A = λ signals rest. onLine 3 (keyedLine (isKey (bytes "rows")) (countForm 1 most CountOutOfRange)) rest (behind-rows signals) in
-    let behind-format : ℕ → List ℕ → Result A = λ one rest. onLine 2 (keyedLine (isKey (bytes "signals")) (countForm 1 32 CountOutOfRange)) rest behind-signals in
     let b : bodyLines 114 (rowValue signals) (length rs) 1 4 body ≡ accepted rs =
     body-written 114 (omega arith) (rowValue signals) writtenRow (RowOk signals) (row-reads signals s₂) rs 1 4 (omega arith) ok in
-    count-in (bytes "format") 1 1 WrongFormat 1 behind-format refl refl 1 (writtenLine (bytes "signals") (decimal signals) rows-line) (omega arith) (omega arith) (omega arith)
-    ∙ (count-in (bytes "signals") 1 32 CountOutOfRange 2 behind-signals refl refl signals rows-line s₁ s₂ (omega arith)
-    ∙ (count-in (bytes "rows") 1 most CountOutOfRange 3 (behind-rows signals) refl refl rows body m₁ m₂ (omega arith)
-    ∙ ap (mapResult (table signals rows)) (rw n at b)))
+    lines-read most table signals rows rs (decimal 1) (decimal signals) (decimal rows) body
+    (padded-written 1 (omega arith)) (padded-written signals (omega arith)) (padded-written rows (omega arith)) s₁ s₂ m₁ m₂ (rw n at b)
+
+-- a valid formula has as many rows as it says
+pub valid-full : (f : Formula) → Valid f → length (f .places) ≡ 64
+valid-full f v = ap length (v .unused-true) ∙ length-tabulate 64 0 _
+
+pub valid-rows : (f : Formula) → Valid f → length (rowsOf f) ≡ f .rows
+valid-rows f v =
+    length-map (take (f .rows) (f .places)) _ ∙ (length-take (f .rows) (f .places) ∙ rw (valid-full f v) (omega (arith, v .in-range .most-rows)))
 
 -- A FORMULA THAT IS WRITTEN IS READ BACK
 pub rule-written : (f : Formula) → Valid f → parseRule (writtenRule f) ≡ accepted f
 unfolding parseRule writtenRule
 rule-written f v =
     let i : InRange f = v .in-range in
-    let l : length (f .places) ≡ 64 = ap length (v .unused-true) ∙ length-tabulate 64 0 _ in
-    let n : length (rowsOf f) ≡ f .rows = length-map (take (f .rows) (f .places)) _ ∙ (length-take (f .rows) (f .places) ∙ rw l (omega (arith, i .most-rows))) in
-    rw (le-ltb 65536 (length (writtenRule f)) (rule-short f (used-most f l)))
-    (text-read 64 formulaOf (f .signals) (f .rows) (rowsOf f) (omega arith) (i .some-signals) (i .most-signals) (i .some-rows) (i .most-rows) n (i .rows-in-range)
+    rw (le-ltb 65536 (length (writtenRule f)) (rule-short f (used-most f (valid-full f v))))
+    (text-read 64 formulaOf (f .signals) (f .rows) (rowsOf f) (omega arith) (i .some-signals) (i .most-signals) (i .some-rows) (i .most-rows) (valid-rows f v) (i .rows-in-range)
     ∙ ap (λ ps. accepted (record { signals = f .signals; rows = f .rows; places = ps })) (sym (v .unused-true)))
 
 rows-in-places : (rs : List Row) → map (λ (p : RowPlace). p .row) (map inPlace rs) ≡ rs

@@ -25,7 +25,7 @@ use Rattle.tables.proofs.Choices.{know}
 use Rattle.text.specs.Line.{isKey, keyedLine}
 use Rattle.text.specs.Count.{countForm}
 use Rattle.text.specs.Digits.{digitsForm}
-use Rattle.text.specs.Body.{bodyLines}
+use Rattle.text.specs.Body.{bodyLines, EachAt}
 use Rattle.text.specs.Result.{Result, onLine, mapResult, outcomeOf}
 use Rattle.text.specs.Result.Result.{accepted, refused}
 use Rattle.text.specs.Written.{decimal, writtenLine, writtenBody, digitsText}
@@ -144,6 +144,11 @@ module _ (a : Activation) (full : length (a .lanes) ≡ 128) where
   unfolding digits
   rows-length = length-map (take (a .rows) (a .lanes)) digits ∙ (length-take (a .rows) (a .lanes) ∙ rw full)
 
+  -- as many rows as it says, each with as many digits as there are cycles
+  pub rows-held : a .rows ≤ 128 → a .cycles ≤ 256 → (length (rowsOf a) ≡ a .rows) × EachAt (λ r ds. length ds ≡ a .cycles) 1 (rowsOf a)
+  rows-held most-r most-c =
+      (rows-length ∙ omega arith, all-ok (λ r ds. length ds ≡ a .cycles) none (rowsOf a) 1 (λ k h. digits-length k ∙ omega arith))
+
   short : length (writtenSheet a) ≤ 65536
   short =
       let b : length (AfterCycles a) ≤ length (rowsOf a) * 264 = body-short 122 digitsText none 256 (rowsOf a) 1 (λ k h. rw (text-length, digits-length k) (omega arith)) in
@@ -177,22 +182,22 @@ module _ (a : Activation) (full : length (a .lanes) ≡ 128) where
 
     in-range : 1 ≤ a .cycles → a .cycles ≤ 256 → parseSheet (writtenSheet a) ≡ accepted (activationOf (a .rows) (a .cycles) (rowsOf a))
     in-range some-c most-c =
-        let n : length (rowsOf a) ≡ a .rows = rows-length ∙ omega arith in
-        let each : (k : ℕ) → k < length (rowsOf a) → length (getD (rowsOf a) k none) ≡ a .cycles = λ k h. digits-length k ∙ omega arith in
-        let ok = all-ok (λ r ds. length ds ≡ a .cycles) none (rowsOf a) 1 each in
+        let w = rows-held most-r most-c in
         let b : bodyLines 122 (λ r. digitsForm (a .cycles)) (length (rowsOf a)) 1 4 (AfterCycles a) ≡ accepted (rowsOf a) =
-        body-written 122 (omega arith) (λ r. digitsForm (a .cycles)) digitsText (λ r ds. length ds ≡ a .cycles) (λ r ds h e. (digits-written (a .cycles) ds e, digits-free ds)) (rowsOf a) 1 4 (omega arith) ok in
-        from-cycles ∙ (count-in (bytes "cycles") 1 256 CountOutOfRange 3 (FromBody (a .rows)) refl refl (a .cycles) (AfterCycles a) some-c most-c (omega arith) ∙ rw (rw n at b))
+        body-written 122 (omega arith) (λ r. digitsForm (a .cycles)) digitsText (λ r ds. length ds ≡ a .cycles) (λ r ds h e. (digits-written (a .cycles) ds e, digits-free ds)) (rowsOf a) 1 4 (omega (arith, w .0)) (w .1) in
+        from-cycles ∙ (count-in (bytes "cycles") 1 256 CountOutOfRange 3 (FromBody (a .rows)) refl refl (a .cycles) (AfterCycles a) some-c most-c (omega arith) ∙ rw (rw (w .0) at b))
 
 -- WHAT IS READ OF A TABLE IN RANGE THAT IS WRITTEN: the same table, but for the bits that it does not use
 pub sheet-in-range : (a : Activation) → length (a .lanes) ≡ 128 → InRange a → parseSheet (writtenSheet a) ≡ accepted (activationOf (a .rows) (a .cycles) (rowsOf a))
 sheet-in-range a full r = in-range a full (r .some-rows) (r .most-rows) (r .some-cycles) (r .most-cycles)
 
+pub valid-full : (a : Activation) → Valid a → length (a .lanes) ≡ 128
+valid-full a v = ap length (v .unused) ∙ length-tabulate 128 0 (λ i. rowLane (getD (rowsOf a) i []))
+
 -- AN ACTIVATION TABLE THAT IS WRITTEN IS READ BACK
 pub sheet-written : (a : Activation) → Valid a → parseSheet (writtenSheet a) ≡ accepted a
 sheet-written a v =
-    let full : length (a .lanes) ≡ 128 = ap length (v .unused) ∙ length-tabulate 128 0 (λ i. rowLane (getD (rowsOf a) i [])) in
-    sheet-in-range a full (v .range)
+    sheet-in-range a (valid-full a v) (v .range)
     ∙ ap (λ ls. accepted (record { rows = a .rows; cycles = a .cycles; lanes = ls })) (sym (v .unused))
 
 accepted-range : (a x : Activation) → parseSheet (writtenSheet a) ≡ accepted x → InRange a

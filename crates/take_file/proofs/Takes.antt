@@ -25,7 +25,7 @@ use Rattle.tables.proofs.Bits.{bit-of-lane}
 use Rattle.text.specs.Line.{isKey, keyedLine}
 use Rattle.text.specs.Count.{countForm}
 use Rattle.text.specs.Digits.{digitsForm}
-use Rattle.text.specs.Body.{bodyLines}
+use Rattle.text.specs.Body.{bodyLines, EachAt}
 use Rattle.text.specs.Result.{Result, onParsed, onLine, mapResult, outcomeOf}
 use Rattle.text.specs.Result.Parsed.{bad}
 use Rattle.text.specs.Result.Result.{accepted, refused}
@@ -164,6 +164,11 @@ module _ (t : Trace) (full : length (t .lanes) ≡ 32) where
   cycles-length : length (cyclesOf t) ≡ min (t .cycles) 256
   cycles-length = length-tabulate (min (t .cycles) 256) 0 (λ c. map (λ (l : Lane). bitAt l c) (take (t .signals) (t .lanes)))
 
+  -- as many cycles as it says, each with as many digits as there are signals
+  pub cycles-held : t .signals ≤ 32 → t .cycles ≤ 256 → (length (cyclesOf t) ≡ t .cycles) × EachAt (λ c ds. length ds ≡ t .signals) 0 (cyclesOf t)
+  cycles-held most-s most-c =
+      (cycles-length ∙ omega arith, all-ok (λ c ds. length ds ≡ t .signals) [] (cyclesOf t) 0 (λ k h. digits-length k h ∙ omega arith))
+
   short : length (writtenTake t) ≤ 65536
   short =
       let a : length (AfterLoop t) ≤ length (cyclesOf t) * 40 =
@@ -213,18 +218,18 @@ module _ (t : Trace) (full : length (t .lanes) ≡ 32) where
       -- what is read of a trace in range: the same trace, but for the bits that it does not use
       pub in-range : Below (t .cycles) (t .ending) → parseTake (writtenTake t) ≡ accepted (traceOf (t .signals) (t .cycles) (t .ending) (cyclesOf t))
       in-range loop =
-          let n : length (cyclesOf t) ≡ t .cycles = cycles-length ∙ omega arith in
-          let each : (k : ℕ) → k < length (cyclesOf t) → length (getD (cyclesOf t) k []) ≡ t .signals = λ k h. digits-length k h ∙ omega arith in
-          let ok = all-ok (λ c ds. length ds ≡ t .signals) [] (cyclesOf t) 0 each in
+          let w = cycles-held most-s most-c in
           let b : bodyLines 99 (λ c. digitsForm (t .signals)) (length (cyclesOf t)) 0 5 (AfterLoop t) ≡ accepted (cyclesOf t) =
-          body-written 99 (omega arith) (λ c. digitsForm (t .signals)) digitsText (λ c ds. length ds ≡ t .signals) (λ c ds h e. (digits-written (t .signals) ds e, digits-free ds)) (cyclesOf t) 0 5 (omega arith) ok in
-          from-loop ∙ rw (ending-written (t .cycles) (t .ending) most-c loop, rw n at b)
+          body-written 99 (omega arith) (λ c. digitsForm (t .signals)) digitsText (λ c ds. length ds ≡ t .signals) (λ c ds h e. (digits-written (t .signals) ds e, digits-free ds)) (cyclesOf t) 0 5 (omega (arith, w .0)) (w .1) in
+          from-loop ∙ rw (ending-written (t .cycles) (t .ending) most-c loop, rw (w .0) at b)
+
+pub valid-full : (t : Trace) → Valid t → length (t .lanes) ≡ 32
+valid-full t v = ap length (v .unused) ∙ length-tabulate 32 0 (λ s. laneOf (λ c. digit (cyclesOf t) c s))
 
 -- A TRACE THAT IS WRITTEN IS READ BACK
 pub take-written : (t : Trace) → Valid t → parseTake (writtenTake t) ≡ accepted t
 take-written t v =
-    let full : length (t .lanes) ≡ 32 = ap length (v .unused) ∙ length-tabulate 32 0 (λ s. laneOf (λ c. digit (cyclesOf t) c s)) in
-    in-range t full (v .range .some-signals) (v .range .most-signals) (v .range .some-cycles) (v .range .most-cycles) (v .range .loop)
+    in-range t (valid-full t v) (v .range .some-signals) (v .range .most-signals) (v .range .some-cycles) (v .range .most-cycles) (v .range .loop)
     ∙ ap (λ ls. accepted (record { signals = t .signals; cycles = t .cycles; ending = t .ending; lanes = ls })) (sym (v .unused))
 
 accepted-range : (t x : Trace) → parseTake (writtenTake t) ≡ accepted x → InRange t

@@ -1,0 +1,10 @@
+pub mod Bytes
+pub mod Zeros
+pub mod Numbers
+pub mod Lines
+pub mod Digits
+pub mod Rows
+pub mod Files
+pub mod Rules
+pub mod Takes
+pub mod Sheets
