@@ -1,6 +1,6 @@
 #!/usr/bin/env bash
 # Runs `judge` in each folder of examples and holds what it prints to expected.txt; and `sheet` and `check_sheet` where a folder has what
-# they must print, expected-sheet.txt and expected-check_sheet.txt.
+# they must print, expected-sheet.txt and expected-check_sheet.txt. Of a folder NAME_padded these must be the files of the folder NAME.
 #     examples/check.sh [PROGRAM [WORDS...]]      the three programs of target/bin; or PROGRAM in the place of `judge`, and of the other
 #                                                 two those whose path is PROGRAM's with their name in the place of `judge`
 set -euo pipefail
@@ -29,5 +29,9 @@ for folder in */; do
             failed=1
         fi
     done
+done
+for expected in *_padded/expected*.txt; do
+    folder=${expected%/*}
+    cmp "$expected" "${folder%_padded}/${expected##*/}" || failed=1
 done
 exit "$failed"

@@ -1,5 +1,6 @@
 #!/usr/bin/env python3
-"""Writes the first inputs of every fuzz target to FOLDER/TARGET/, from examples/ and the files that crates/try_services reads alone.
+"""Writes the first inputs of every fuzz target to FOLDER/TARGET/, from examples/ and the files that crates/try_services reads alone, as
+they are and padded.
 
     fuzz/seeds.py FOLDER
 
@@ -8,6 +9,7 @@ each, the higher first (src/parts.rs). Inputs of one file may be longer, up to o
 """
 import pathlib
 import random
+import re
 import sys
 
 ROOT = pathlib.Path(__file__).resolve().parent.parent
@@ -31,6 +33,24 @@ def of_kind(kind):
 
 def small(files):
     return [file for file in files if len(file) <= LONGEST]
+
+
+def padded(file):
+    """The file with the numbers in its values padded to five digits, as the bench pads them; what a cycle or a sheet's row has is none."""
+    def pad(line):
+        return line[1] + re.sub(rb"(?<!\d)\d{1,5}(?!\d)", lambda number: number[0].rjust(5, b"0"), line[2])
+    return re.sub(rb"(?m)^((?![cz]\d)[^=\n]*=)(.*)$", pad, file)
+
+
+def all_padded(lists):
+    return [[padded(file) for file in files] for files in lists]
+
+
+def zeros(file):
+    """The file with one zero in front of its digits at some place, in keys and values; with six digits there; and with a padded zero."""
+    for place in re.finditer(rb"\d+", file):
+        for digits in (b"0" + place[0], place[0].rjust(6, b"0"), b"00000"):
+            yield file[:place.start()] + digits + file[place.end():]
 
 
 def examples(*names):
@@ -93,13 +113,16 @@ def seeds():
     rules, takes, sheets = of_kind("rule"), of_kind("take"), of_kind("sheet")
     rule, take, sheet = [(DATA / name).read_bytes() for name in ("rule-a", "take-a", "sheet-a")]
     for kind, files, file in (("rule", rules, rule), ("take", takes, take), ("sheet", sheets, sheet)):
-        yield kind, files + [file.ljust(length, b"\n") for length in (65_536, 65_537)]
+        long = [file.ljust(length, b"\n") for length in (65_536, 65_537)]
+        yield kind, [*files, *long, *map(padded, small(files)), *zeros(file)]
     rules, takes, sheets = small(rules), small(takes), small(sheets)
     pairs = [*examples("rule.txt", "take.txt"), *([other, take] for other in rules), *([rule, other] for other in takes)]
-    pairs += [*long_pairs(), *(triple[:2] for triple in limits())]
+    pairs += [*long_pairs(), *(triple[:2] for triple in limits()), *all_padded(examples("rule.txt", "take.txt"))]
     yield "judge", [join(*pair) for pair in pairs]
+    whole = [*examples("rule.txt", "take.txt", "sheet.txt"), [rule, take, sheet]]
     triples = [[*pair, sheet] for pair in pairs] + [[rule, take, other] for other in sheets] + list(limits())
-    yield "check", [join(*triple) for triple in [*examples("rule.txt", "take.txt", "sheet.txt"), *triples]]
+    yield "check", [join(*triple) for triple in [*whole, *triples, *all_padded(whole)]]
+    rules += [padded(rule)]
     yield "step", [join(other, b"00000", b"11111", b"10") for other in rules]
     yield "run", [join(*run) for run in runs(rule, rules)]
 

@@ -5,6 +5,9 @@
  * Files are given as bytes: a pointer and a length. A pointer may be of any value where its length is 0. No function keeps a pointer,
  * has a state of its own or asks for memory: what a run keeps from call to call are bytes of the caller's. Input bytes are never altered.
  *
+ * Numbers in a file's values may have leading zeros, five digits in all at most, as in `cycles=00012` and `r3=and 00001 00002`. Numbers in
+ * its keys (`r1=`, `c0=`, `z1=`) may not, and the digits of `c` and `z` lines are no numbers. What is written has no leading zeros.
+ *
  * No function fails on any input. This presumes of the caller, and no proof can look at it:
  *  - that each pointer is valid for its length: so many bytes are there to be read, and to be written where it is an output;
  *  - that the output, or the run that a call alters, does not lie over an input;

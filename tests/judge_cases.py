@@ -213,7 +213,6 @@ for name, text, number, line in (
         ('digits-many', fair.replace('c0=10', 'c0=100'), 2, 5),
         ('digit-2', fair.replace('c1=01', 'c1=02'), 2, 6),
         ('loop-word', fair.replace('loop=0', 'loop=None'), 2, 4),
-        ('loop-00', fair.replace('loop=0', 'loop=00'), 2, 4),
         ('format-0', fair.replace('format=1', 'format=0'), 3, 1),
         ('0-signals', fair.replace('signals=2', 'signals=0'), 4, 2),
         ('33-signals', fair.replace('signals=2', 'signals=33'), 4, 2),

@@ -251,7 +251,6 @@ for name, text, number, line in (
         ('space', good.replace('z4=11', 'z4=1 1'), 2, 7),
         ('order', good.replace('rows=5\ncycles=2\n', 'cycles=2\nrows=5\n'), 2, 2),
         ('signals', good.replace('rows=5', 'signals=2\nrows=5'), 2, 2),
-        ('rows-05', good.replace('rows=5', 'rows=05'), 2, 2),
         ('rows-six-digits', good.replace('rows=5', 'rows=100000'), 2, 2),
         ('format-2', good.replace('format=1', 'format=2'), 3, 1),
         ('format-0', good.replace('format=1', 'format=0'), 3, 1),

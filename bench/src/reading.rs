@@ -30,12 +30,21 @@ impl Refusal {
     }
 }
 
+/// A number in a value: one to five digits, the first of which may be zeros.
 pub fn number(text: &str) -> Option<usize> {
     let digits = text.bytes().all(|b| b.is_ascii_digit());
-    if text.is_empty() || text.len() > 5 || !digits || (text.len() > 1 && text.starts_with('0')) {
+    if text.is_empty() || text.len() > 5 || !digits {
         return None;
     }
     text.parse().ok()
+}
+
+/// A number in a key: it has no leading zeros.
+fn key_number(text: &str) -> Option<usize> {
+    if text.len() > 1 && text.starts_with('0') {
+        return None;
+    }
+    number(text)
 }
 
 /// The lines of a file, taken from the front.
@@ -76,7 +85,7 @@ impl<'a> Lines<'a> {
     /// The value of the next line, whose key must be this letter and this number.
     pub fn numbered(&mut self, letter: char, n: usize) -> Result<&'a str, Fault> {
         match self.take_line() {
-            Some((k, value)) if k.strip_prefix(letter).and_then(number) == Some(n) => Ok(value),
+            Some((k, value)) if k.strip_prefix(letter).and_then(key_number) == Some(n) => Ok(value),
             _ => Err(self.fault(2)),
         }
     }

@@ -29,9 +29,13 @@ pub fn mutated(target: Target, input: &[u8], seed: u32, by_bytes: &mut dyn FnMut
     parts::join(&files)
 }
 
-/// Puts another number in the place of one in a file: what is refused for a count, a signal, an operand or a loop's cycle.
+/// Puts another number in the place of one in a file, padded or not: what is refused for a count, a signal, an operand or a loop's cycle,
+/// or for its zeros.
 fn put_number(file: &mut Vec<u8>, random: &mut Random) {
-    const NUMBERS: [&str; 14] = ["0", "1", "2", "3", "5", "32", "33", "64", "65", "128", "129", "256", "257", "99999"];
+    const NUMBERS: [&str; 20] = [
+        "0", "1", "2", "3", "5", "32", "33", "64", "65", "128", "129", "256", "257", "99999", "00", "01", "00000",
+        "00002", "00257", "000001",
+    ];
     let starts: Vec<usize> = (0..file.len()).filter(|place| file[*place].is_ascii_digit()).collect();
     if starts.is_empty() {
         return;

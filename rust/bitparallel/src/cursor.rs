@@ -59,7 +59,7 @@ impl<'a> Cursor<'a> {
         Ok(())
     }
 
-    /// Reads a number of one to five digits without leading zeros.
+    /// Reads a number of one to five digits, the first of which may be zeros.
     pub fn number(&mut self) -> Result<usize, Refusal> {
         let (mut number, mut length) = (0, 0);
         while let Some(digit @ b'0'..=b'9') = self.rest.get(length) {
@@ -67,7 +67,7 @@ impl<'a> Cursor<'a> {
             number = 10 * number + usize::from(digit - b'0');
             length += 1;
         }
-        self.require(length == 1 || length > 1 && self.rest[0] != b'0', 2)?;
+        self.require(length > 0, 2)?;
         self.rest = &self.rest[length..];
         Ok(number)
     }

@@ -7,6 +7,9 @@
 //! them is answered by a [`Refusal`] with its number, file and line. Outputs are written into slices that the caller lends; a
 //! refused call leaves them as they were, and an answered one leaves the bytes behind its output as they were.
 //!
+//! Numbers in a file's values may have leading zeros, five digits in all at most, as in `cycles=00012`. Numbers in its keys (`r1=`,
+//! `c0=`, `z1=`) may not, and the digits of `c` and `z` lines are no numbers. What is written has no leading zeros.
+//!
 //! The services have no state and need no memory but the caller's; the two functions whose names end in `_vec` allocate. [`Monitors`]
 //! keeps what [`step`] needs from one cycle to the next, and [`Run`] judges a take while it is recorded.
 //!
@@ -19,6 +22,20 @@
 //!     r1=sig 1\nr2=not 1\nr3=sig 2\nr4=ever 3\nr5=or 2 4\nr6=always 5\n";
 //! let looped = b"format=1\nsignals=2\ncycles=2\nloop=0\nc0=10\nc1=01\n";
 //! let open = b"format=1\nsignals=2\ncycles=1\nloop=none\nc0=10\n";
+//!
+//! assert_eq!(judge(rule, looped), Ok(Verdict::Holds));
+//! assert_eq!(judge(rule, open), Ok(Verdict::Open));
+//! ```
+//!
+//! The same with padded numbers:
+//!
+//! ```
+//! use citronhelm::{judge, Verdict};
+//!
+//! let rule = b"format=00001\nsignals=00002\nrows=00006\n\
+//!     r1=sig 00001\nr2=not 00001\nr3=sig 00002\nr4=ever 00003\nr5=or 00002 00004\nr6=always 00005\n";
+//! let looped = b"format=00001\nsignals=00002\ncycles=00002\nloop=00000\nc0=10\nc1=01\n";
+//! let open = b"format=00001\nsignals=00002\ncycles=00001\nloop=none\nc0=10\n";
 //!
 //! assert_eq!(judge(rule, looped), Ok(Verdict::Holds));
 //! assert_eq!(judge(rule, open), Ok(Verdict::Open));

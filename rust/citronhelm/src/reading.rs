@@ -96,3 +96,26 @@ pub fn normal_vec(rule: &[u8], negated: bool) -> Result<Vec<u8>, Refusal> {
     output.truncate(length);
     Ok(output)
 }
+
+#[cfg(test)]
+mod tests {
+    use super::*;
+    use crate::refusal::{File, Reason};
+
+    #[test]
+    fn padded_files_have_the_normal_form_of_the_unpadded() {
+        let rule = b"format=1\nsignals=2\nrows=3\nr1=sig 1\nr2=nsig 2\nr3=until 1 2\n";
+        let padded = b"format=00001\nsignals=002\nrows=0003\nr1=sig 01\nr2=nsig 00002\nr3=until 0001 02\n";
+        for negated in [false, true] {
+            assert_eq!(normal_vec(padded, negated), normal_vec(rule, negated));
+        }
+    }
+
+    #[test]
+    fn padded_keys_are_refused_at_their_lines() {
+        let at = |file, line| Err(Refusal { reason: Reason::WrongForm, file: Some(file), line });
+        assert_eq!(read_rule(b"format=1\nsignals=1\nrows=2\nr1=sig 1\nr02=always 1\n"), at(File::Rule, 5));
+        assert_eq!(read_take(b"format=1\nsignals=2\ncycles=1\nloop=none\nc00=10\n"), at(File::Take, 5));
+        assert_eq!(read_sheet(b"format=1\nrows=1\ncycles=2\nz00001=10\n"), at(File::Sheet, 4));
+    }
+}

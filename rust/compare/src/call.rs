@@ -101,6 +101,16 @@ impl Service {
         Service::RunVerdict,
     ];
 
+    /// How many of its inputs are files; they are the first.
+    pub fn files(self) -> usize {
+        match self {
+            Service::RunCycle | Service::RunVerdict => 0,
+            Service::Judge | Service::JudgeLooped | Service::JudgeOpen | Service::JudgeText | Service::MakeSheet => 2,
+            Service::CheckSheet => 3,
+            _ => 1,
+        }
+    }
+
     /// A call of a service that writes nothing.
     pub fn of(self, inputs: &[&[u8]]) -> Call {
         self.writing(inputs, Vec::new())

@@ -22,6 +22,34 @@ const NORMAL_A: &str = "format=1\nsignals=2\nrows=5\nr1=nsig 1\nr2=sig 2\nr3=eve
 const SHEET_A: &str = "format=1\nrows=5\ncycles=2\nz1=01\nz2=01\nz3=11\nz4=11\nz5=11\n";
 const TEXT_A: &str = "signals=2\nrows=5\ncycles=2\nloop=0\nverdict=holds\n";
 
+/// Rule A, a take and their sheet as the bench pads them.
+const PADDED_A: &str =
+    "format=00001\nsignals=00002\nrows=00006\nr1=sig 00001\nr2=not 00001\nr3=sig 00002\nr4=ever 00003\n\
+    r5=or 00002 00004\nr6=always 00005\n";
+const PADDED_TAKE: &str = "format=00001\nsignals=00002\ncycles=00002\nloop=00000\nc0=10\nc1=01\n";
+const PADDED_SHEET: &str = "format=00001\nrows=00005\ncycles=00002\nz1=01\nz2=01\nz3=11\nz4=11\nz5=11\n";
+
+/// One of these files, a text in it and another in the place of that, and the number and line of the refusal.
+const WRONG_PADDING: &[(u8, &str, &str, u8, u32)] = &[
+    (1, "format=00001", "format=00002", 3, 1),
+    (1, "rows=00006", "rows=00000", 4, 3),
+    (1, "rows=00006", "rows=00065", 4, 3),
+    (1, "rows=00006", "rows=000006", 2, 3),
+    (1, "sig 00002", "sig 00003", 5, 6),
+    (1, "or 00002 00004", "and 00000 1", 5, 8),
+    (1, "or 00002 00004", "or 00002 00005", 5, 8),
+    (1, "or 00002 00004", "or 00005 000004", 2, 8),
+    (1, "r6=", "r06=", 2, 9),
+    (2, "cycles=00002", "cycles=000002", 2, 3),
+    (2, "loop=00000", "loop=00002", 6, 4),
+    (2, "loop=00000", "loop=000000", 2, 4),
+    (2, "c0=", "c00=", 2, 5),
+    (2, "c1=01", "c1=001", 2, 6),
+    (3, "cycles=00002", "cycles=00257", 4, 3),
+    (3, "z1=", "z01=", 2, 4),
+    (3, "z2=01", "z2=00001", 2, 5),
+];
+
 /// Rule, loop, cycles, verdict.
 const VERDICTS: &[(&[&str], &str, &[&str], &str)] = &[
     (A, "0", &["10", "01"], "holds"),
@@ -48,8 +76,8 @@ const FINDINGS: &[(&[&str], Answer)] = &[
 
 /// Checks an implementation on every case; the number of cases.
 pub fn check(implementation: Implementation) -> Result<usize, String> {
-    let cases: Vec<Case> =
-        [verdicts(), sheets(), limits(), written(), runs(), wrong_runs()].into_iter().flatten().collect();
+    let groups = [verdicts(), sheets(), limits(), written(), padded(), wrong_padding(), runs(), wrong_runs()];
+    let cases: Vec<Case> = groups.into_iter().flatten().collect();
     for Case(call, answer, output) in &cases {
         let outcome = implementation(call);
         if outcome.answer != *answer || !outcome.output.starts_with(output.as_bytes()) {
@@ -107,6 +135,37 @@ fn written() -> Vec<Case> {
         Case(pair(Service::MakeSheet), Answer::Number(SHEET_A.len()), SHEET_A),
         Case(pair(Service::JudgeText), Answer::Number(TEXT_A.len()), TEXT_A),
     ]
+}
+
+/// Padded files are answered as others are, and what is written of them is not padded.
+fn padded() -> Vec<Case> {
+    let [rule, take, sheet] = [PADDED_A, PADDED_TAKE, PADDED_SHEET].map(str::as_bytes);
+    let pair = |service: Service| service.writing(&[rule, take], vec![0; 300]);
+    let step = Service::Step.writing(&[rule, b"00000", b"00111", b"10"], vec![0; 15]);
+    vec![
+        Case(Service::Bound.of(&[rule]), Answer::Number(293), ""),
+        Case(Service::Normal.writing(&[rule], vec![0; 300]), Answer::Number(NORMAL_A.len()), NORMAL_A),
+        Case(pair(Service::JudgeLooped), Answer::Verdict("holds".to_string()), ""),
+        Case(pair(Service::JudgeText), Answer::Number(TEXT_A.len()), TEXT_A),
+        Case(pair(Service::MakeSheet), Answer::Number(SHEET_A.len()), SHEET_A),
+        Case(Service::CheckSheet.of(&[rule, take, sheet]), Answer::Finding("passes", 0, 0), ""),
+        Case(step, Answer::Number(15), "000001101100101"),
+        Case(Service::RunBegin.writing(&[rule], vec![0; RUN]), Answer::Number(RUN), ""),
+    ]
+}
+
+/// Padded numbers that are out of range, numbers of six digits, and zeros where there is no padding.
+fn wrong_padding() -> Vec<Case> {
+    let case = |&(file, old, new, number, line): &(u8, &str, &str, u8, u32)| {
+        let (service, padded) = match file {
+            1 => (Service::ReadRule, PADDED_A),
+            2 => (Service::ReadTake, PADDED_TAKE),
+            _ => (Service::ReadSheet, PADDED_SHEET),
+        };
+        assert!(padded.contains(old), "{old}");
+        Case(service.of(&[padded.replacen(old, new, 1).as_bytes()]), Answer::Refused(number, file, line), "")
+    };
+    WRONG_PADDING.iter().map(case).collect()
 }
 
 /// Runs as they go: open, then broken; kept; and what is refused on the way.

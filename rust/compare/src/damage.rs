@@ -1,6 +1,8 @@
 //! Damage to files, of the kinds that happen and of those that are just beside what is allowed.
 
+use crate::padding::{places, put_zeros, Digits};
 use crate::random::Random;
+use std::ops::Range;
 
 /// Numbers at the edges of ranges, and texts that are nearly numbers.
 const EDGES: &[&str] = &[
@@ -44,13 +46,14 @@ const MOST_BYTES: usize = 65_536;
 pub fn damaged(random: &mut Random, file: &[u8]) -> Vec<u8> {
     let mut file = file.to_vec();
     for _ in 0..if random.once_in(6) { 2 } else { 1 } {
-        file = match random.below(8) {
+        file = match random.below(10) {
             0 => with_byte_changed(random, file),
             1 => with_byte_inserted(random, file),
             2 | 3 => with_number_replaced(random, file),
-            4 => with_lines_moved(random, file),
-            5 => with_word_replaced(random, file),
-            6 => with_end_changed(random, file),
+            4 | 5 => with_zeros(random, file),
+            6 => with_lines_moved(random, file),
+            7 => with_word_replaced(random, file),
+            8 => with_end_changed(random, file),
             _ => with_length_changed(random, file),
         };
     }
@@ -71,19 +74,41 @@ fn with_byte_inserted(random: &mut Random, mut file: Vec<u8>) -> Vec<u8> {
     file
 }
 
-/// Another number in the place of one in the file, at times the next one; of one of the first lines more often.
-fn with_number_replaced(random: &mut Random, file: Vec<u8>) -> Vec<u8> {
-    let is_start = |at: &usize| file[*at].is_ascii_digit() && !file[at - 1].is_ascii_digit();
-    let starts: Vec<usize> = (1..file.len()).filter(is_start).collect();
-    if starts.is_empty() {
-        return file;
-    }
-    let among = if random.once_in(2) { starts.len() } else { starts.len().min(6) };
-    let start = starts[random.below(among)];
-    let end = start + file[start..].iter().take_while(|byte| byte.is_ascii_digit()).count();
-    let higher = String::from_utf8_lossy(&file[start..end]).parse().map_or(0, |number: u64| number.saturating_add(1));
+/// Another number in the place of one in the file, at times the next one; half of them padded, up to one digit too many.
+fn with_number_replaced(random: &mut Random, mut file: Vec<u8>) -> Vec<u8> {
+    let Some(place) = picked(random, &file, |_| true) else { return file };
+    let old = String::from_utf8_lossy(&file[place.clone()]);
+    let higher = old.parse().map_or(0, |number: u64| number.saturating_add(1));
     let number = if random.once_in(3) { higher.to_string() } else { random.pick(EDGES).to_string() };
-    [&file[..start], number.as_bytes(), &file[end..]].concat()
+    let width = if random.once_in(2) { random.between(2, 6) } else { 0 };
+    file.splice(place, format!("{number:0>width$}").bytes());
+    file
+}
+
+/// Zeros in front of a key's number or of a cycle's digits, or up to a sixth or seventh digit of a value's number; or such a number made
+/// a padded one that is often out of its range, or zero.
+fn with_zeros(random: &mut Random, mut file: Vec<u8>) -> Vec<u8> {
+    const HIGH: &[&str] = &["00002", "00033", "00065", "00129", "00257", "09999"];
+    let way = random.below(5);
+    let wanted = [Digits::Key, Digits::Bits, Digits::Value, Digits::Value, Digits::Value][way];
+    let Some(place) = picked(random, &file, |digits| digits == wanted) else { return file };
+    match way {
+        0 | 1 => put_zeros(&mut file, place.start, random.between(1, 4)),
+        2 => put_zeros(&mut file, place.start, random.between(6, 7).saturating_sub(place.len())),
+        3 => drop(file.splice(place, random.pick(HIGH).bytes())),
+        _ => drop(file.splice(place, vec![b'0'; random.between(1, 5)])),
+    }
+    file
+}
+
+/// A place of digits that are wanted; one of the first in the file more often.
+fn picked(random: &mut Random, file: &[u8], wanted: impl Fn(Digits) -> bool) -> Option<Range<usize>> {
+    let mut places: Vec<_> = places(file).filter(|(digits, _)| wanted(*digits)).collect();
+    if places.is_empty() {
+        return None;
+    }
+    let among = if random.once_in(2) { places.len() } else { places.len().min(6) };
+    Some(places.swap_remove(random.below(among)).1)
 }
 
 /// A line removed, doubled, exchanged with another, or lines with carriage returns.

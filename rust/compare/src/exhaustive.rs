@@ -1,12 +1,14 @@
-//! All small rules on all small takes, all sheets for the smallest, and all small runs.
+//! All small rules on all small takes, all sheets for the smallest, all short numbers, and all small runs.
 
 use crate::call::Service;
 use crate::files::{rule, sheet, take, BINARY, UNARY};
+use crate::padding::places;
 use crate::runs;
 use crate::trials::Make;
+use std::ops::Range;
 
 /// Every verdict and made sheet for rules of up to three rows, on takes of up to three cycles with one signal and of up to two cycles
-/// with two; every check of every sheet for rules of up to two rows and takes of up to three cycles with one signal; small runs.
+/// with two; every check of every sheet for rules of up to two rows and takes of up to three cycles with one signal; numbers; small runs.
 pub fn run(make: Make) -> Result<(), String> {
     for (signals, most_cycles) in [(1, 3), (2, 2)] {
         let takes = takes(signals, most_cycles);
@@ -19,6 +21,7 @@ pub fn run(make: Make) -> Result<(), String> {
         }
     }
     all_sheets(make)?;
+    all_numbers(make)?;
     runs::all_small(make)
 }
 
@@ -34,6 +37,32 @@ fn all_sheets(make: Make) -> Result<(), String> {
         }
     }
     Ok(())
+}
+
+/// Every text of up to six digits 0, 1 and 2 in the place of each number, in keys and in values, and of the digits of each cycle and each
+/// row of a sheet: files read alone, and judged.
+fn all_numbers(make: Make) -> Result<(), String> {
+    let rule = rule(2, &["sig 1", "nsig 2", "and 1 2"]);
+    let take = take("1", &["10", "01"]);
+    for file in with_each_number(&rule) {
+        make(&Service::ReadRule.of(&[&file]))?;
+        make(&Service::Judge.of(&[&file, &take]))?;
+    }
+    for file in with_each_number(&take) {
+        make(&Service::ReadTake.of(&[&file]))?;
+        make(&Service::Judge.of(&[&rule, &file]))?;
+    }
+    with_each_number(&sheet(&["10", "01"])).try_for_each(|file| make(&Service::ReadSheet.of(&[&file])))
+}
+
+/// The file with each such text in the place of the digits at each place.
+fn with_each_number(file: &[u8]) -> impl Iterator<Item = Vec<u8>> + '_ {
+    let texts: Vec<String> = (0..=6)
+        .flat_map(|length| lists(&["0", "1", "2"].map(str::to_string), length))
+        .map(|list| list.concat())
+        .collect();
+    let with = |at: &Range<usize>, text: &String| [&file[..at.start], text.as_bytes(), &file[at.end..]].concat();
+    places(file).flat_map(move |(_, at)| texts.iter().map(|text| with(&at, text)).collect::<Vec<_>>())
 }
 
 /// All rules of one to `most` rows, as their rows.
@@ -95,5 +124,6 @@ mod tests {
         assert_eq!(rules(1, 3).len(), 4 + 4 * 14 + 4 * 14 * 36);
         assert_eq!(takes(1, 3).len(), 2 * 2 + 4 * 3 + 8 * 4);
         assert_eq!(digits(2), ["00", "01", "10", "11"]);
+        assert_eq!(with_each_number(b"format=1\nr1=sig 1\n").count(), 3 * (1 + 3 + 9 + 27 + 81 + 243 + 729));
     }
 }

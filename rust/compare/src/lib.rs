@@ -1,5 +1,5 @@
-//! Calls of every service, to hold implementations together on: the papers' cases, all small rules and takes, and random calls, valid and
-//! damaged; and runs, call after call. What a call leaves is compared whole: the answer, the inputs and every byte of the output.
+//! Calls of every service, to hold implementations together on: the papers' cases, all small rules and takes, numbers padded and not, and
+//! random calls, valid and damaged; and runs, call after call. What a call leaves is compared whole: the answer, the inputs and every byte of the output.
 
 #![forbid(unsafe_code)]
 
@@ -10,9 +10,11 @@ mod damage;
 mod exhaustive;
 mod files;
 mod implementations;
+mod padding;
 mod programs;
 mod random;
 mod runs;
+mod shown;
 mod states;
 mod tally;
 mod trials;

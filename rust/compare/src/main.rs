@@ -5,7 +5,7 @@
 //!
 //! Every call is made by both, those of `judge` by the bit-parallel judge as well; answer, inputs and the whole output must be the
 //! same. At the first difference the inputs are printed, and the program fails. It also fails where a service never gave one of
-//! its possible answers: then the calls did not try everything.
+//! its possible answers, or never showed what it does with a padded number: then the calls did not try everything.
 //!
 //! With `--programs` it runs the programs in the folder on the files of the random calls instead, and holds what they print to the second
 //! implementation.
@@ -78,7 +78,13 @@ fn report(options: &Options) -> Result<(), String> {
     if !faults.is_empty() {
         return Err(faults.join("\n"));
     }
-    println!("compare: {} calls answered alike, seed {}, {} runs", tally.calls(), options.seed, options.runs);
+    println!(
+        "compare: {} calls answered alike, {} of them with padded files that were read, seed {}, {} runs",
+        tally.calls(),
+        tally.padded_calls(),
+        options.seed,
+        options.runs
+    );
     Ok(())
 }
 

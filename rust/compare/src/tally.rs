@@ -1,6 +1,7 @@
-//! How often each service gave each answer, which answers are possible, and which of them never came.
+//! How often each service gave each answer and what its calls showed of padded numbers; what is possible, and what of that never came.
 
 use crate::call::{Answer, Outcome, Service};
+use crate::shown::{shown, Shown};
 use std::collections::BTreeMap;
 use std::fmt;
 
@@ -11,9 +12,12 @@ pub enum Kind {
     Refused(u8, u8),
 }
 
-/// The counts.
+/// The counts: every call by its answer; and what calls showed of padded numbers, none or more than one thing each.
 #[derive(Default)]
-pub struct Tally(BTreeMap<(Service, Kind), u64>);
+pub struct Tally {
+    answers: BTreeMap<(Service, Kind), u64>,
+    padding: BTreeMap<(Service, Shown), u64>,
+}
 
 const VERDICTS: &[&str] = &["holds", "breaks", "kept", "broken", "open"];
 const FINDINGS: &[&str] = &["root", "failed", "failed later", "starved", "pending", "passes"];
@@ -111,42 +115,74 @@ fn kind_of_text(text: &[u8]) -> Kind {
 impl Tally {
     /// Counts an outcome.
     pub fn count(&mut self, service: Service, outcome: &Outcome) {
-        *self.0.entry((service, kind(service, outcome))).or_default() += 1;
+        let kind = kind(service, outcome);
+        for shown in shown(service, outcome, matches!(kind, Kind::Said(_))) {
+            *self.padding.entry((service, shown)).or_default() += 1;
+        }
+        *self.answers.entry((service, kind)).or_default() += 1;
     }
 
     /// All calls.
     pub fn calls(&self) -> u64 {
-        self.0.values().sum()
+        self.answers.values().sum()
     }
 
-    /// The faults of the whole: possible answers that never came, and answers that are not possible.
+    /// The calls that were answered on files of which at least one had padded numbers.
+    pub fn padded_calls(&self) -> u64 {
+        Service::ALL.iter().map(|service| get(&self.padding, *service, &Shown::Read)).sum()
+    }
+
+    /// The faults of the whole: possible answers that never came, and answers that are not possible; and the same of what is shown.
     pub fn faults(&self) -> Vec<String> {
         let mut faults = Vec::new();
         for service in Service::ALL {
-            let possible = possible(service);
-            let missing = possible.iter().filter(|kind| self.get(service, kind) == 0);
-            faults.extend(missing.map(|kind| format!("{service:?} never answered: {kind}")));
-            let strange = self.0.keys().filter(|(of, kind)| *of == service && !possible.contains(kind));
-            faults.extend(strange.map(|(_, kind)| format!("{service:?} cannot answer: {kind}")));
+            faults.extend(faults_of(&self.answers, service, &possible(service), "answer"));
+            faults.extend(faults_of(&self.padding, service, &showable(service), "show"));
         }
         faults
     }
+}
 
-    fn get(&self, service: Service, kind: &Kind) -> u64 {
-        self.0.get(&(service, kind.clone())).copied().unwrap_or(0)
-    }
+/// What calls of a service can show of padded numbers.
+fn showable(service: Service) -> Vec<Shown> {
+    Shown::ALL.into_iter().filter(|shown| shown.can_be_of(service)).collect()
+}
 
-    /// A line of the table: a count for each service, `-` where the service cannot answer so.
-    fn line(&self, f: &mut fmt::Formatter<'_>, kind: &Kind) -> fmt::Result {
-        write!(f, "{:17}", kind.to_string())?;
+fn get<T: Ord + Clone>(counts: &BTreeMap<(Service, T), u64>, service: Service, thing: &T) -> u64 {
+    counts.get(&(service, thing.clone())).copied().unwrap_or(0)
+}
+
+/// What a service never did of the possible, and what it did beside that.
+fn faults_of<T: Ord + Clone + fmt::Display>(
+    counts: &BTreeMap<(Service, T), u64>,
+    service: Service,
+    possible: &[T],
+    verb: &str,
+) -> Vec<String> {
+    let missing = possible.iter().filter(|thing| get(counts, service, thing) == 0);
+    let strange = counts.keys().filter(|(of, thing)| *of == service && !possible.contains(thing));
+    let missing = missing.map(|thing| format!("{service:?} never {verb}ed: {thing}"));
+    missing.chain(strange.map(|(_, thing)| format!("{service:?} cannot {verb}: {thing}"))).collect()
+}
+
+/// The lines of the table for these things: a count for each service, `-` where it is not possible.
+fn lines<T: Ord + Clone + fmt::Display>(
+    f: &mut fmt::Formatter<'_>,
+    counts: &BTreeMap<(Service, T), u64>,
+    things: &[T],
+    possible: fn(Service) -> Vec<T>,
+) -> fmt::Result {
+    for thing in things {
+        write!(f, "{:17}", thing.to_string())?;
         for service in Service::ALL {
-            match possible(service).contains(kind) {
-                true => write!(f, " {:>7}", self.get(service, kind))?,
+            match possible(service).contains(thing) {
+                true => write!(f, " {:>7}", get(counts, service, thing))?,
                 false => write!(f, " {:>7}", "-")?,
             }
         }
-        writeln!(f)
+        writeln!(f)?;
     }
+    Ok(())
 }
 
 impl fmt::Display for Kind {
@@ -164,9 +200,10 @@ impl fmt::Display for Tally {
         write!(f, "{:17}", "")?;
         Service::ALL.iter().try_for_each(|service| write!(f, " {service:>7}"))?;
         writeln!(f)?;
-        WORDS.iter().try_for_each(|word| self.line(f, &Kind::Said(word.to_string())))?;
-        let refusals = [RULE, TAKE, SHEET, CALL].concat();
-        refusals.iter().try_for_each(|(number, file)| self.line(f, &Kind::Refused(*number, *file)))
+        let words = WORDS.iter().map(|word| Kind::Said(word.to_string()));
+        let refusals = [RULE, TAKE, SHEET, CALL].concat().into_iter().map(|(number, file)| Kind::Refused(number, file));
+        lines(f, &self.answers, &words.chain(refusals).collect::<Vec<_>>(), possible)?;
+        lines(f, &self.padding, &Shown::ALL, showable)
     }
 }
 
@@ -175,7 +212,7 @@ mod tests {
     use super::*;
 
     fn outcome(answer: Answer) -> Outcome {
-        Outcome { answer, inputs: vec![], output: vec![] }
+        Outcome { answer, inputs: vec![vec![]; 3], output: vec![] }
     }
 
     #[test]
@@ -192,6 +229,17 @@ mod tests {
         let mut tally = Tally::default();
         tally.count(Service::JudgeLooped, &outcome(Answer::Verdict("open".to_string())));
         assert!(tally.faults().contains(&"JudgeLooped cannot answer: open".to_string()));
+    }
+
+    #[test]
+    fn what_was_never_shown_is_a_fault() {
+        let mut tally = Tally::default();
+        let missing = "ReadTake never showed: padded, loop 0".to_string();
+        assert!(tally.faults().contains(&missing));
+        let take = b"format=1\nsignals=1\ncycles=1\nloop=00000\nc0=1\n".to_vec();
+        tally.count(Service::ReadTake, &Outcome { inputs: vec![take], ..outcome(Answer::Accepted) });
+        assert!(!tally.faults().contains(&missing));
+        assert_eq!((tally.calls(), tally.padded_calls()), (1, 1));
     }
 
     #[test]

@@ -4,6 +4,7 @@ use crate::call::{Answer, Call, Service};
 use crate::damage::damaged;
 use crate::files::{random_rule, random_sheet, random_take, Size};
 use crate::implementations::by_second;
+use crate::padding::perhaps_padded;
 use crate::random::Random;
 use crate::runs::random_run;
 
@@ -55,11 +56,13 @@ fn random_size(random: &mut Random) -> Size {
     }
 }
 
-/// A rule, a take that seldom has other signals, and the sheet that is made or a random one, seldom of another size.
+/// A rule, a take that seldom has other signals, and the sheet that is made or a random one, seldom of another size; each may be padded.
 fn random_files(random: &mut Random, size: Size) -> Files {
     let rule = random_rule(random, size);
+    let rule = perhaps_padded(random, rule);
     let signals = if random.once_in(16) { random.between(1, 32) } else { size.signals };
     let take = random_take(random, Size { signals, ..size });
+    let take = perhaps_padded(random, take);
     let rows = rows(&rule);
     let sheet = match written(&Service::MakeSheet.of(&[&rule, &take])) {
         Some(made) if !random.once_in(4) => made,
@@ -67,6 +70,7 @@ fn random_files(random: &mut Random, size: Size) -> Files {
         _ if random.once_in(16) => random_sheet(random, rows + 1, size.cycles),
         _ => random_sheet(random, rows, size.cycles),
     };
+    let sheet = perhaps_padded(random, sheet);
     Files { rule, take, sheet }
 }
 

@@ -6,29 +6,29 @@ use crate::{
 };
 
 /// Always, when signal 1, sooner or later signal 2.
-const A: [&str; 6] = ["sig 1", "not 1", "sig 2", "ever 3", "or 2 4", "always 5"];
+pub const A: [&str; 6] = ["sig 1", "not 1", "sig 2", "ever 3", "or 2 4", "always 5"];
 
 /// Always, not signal 1 or next signal 2.
 const NEXT: [&str; 6] = ["sig 1", "not 1", "sig 2", "next 3", "or 2 4", "always 5"];
 
-const NORMAL_A: &str = "format=1\nsignals=2\nrows=5\nr1=nsig 1\nr2=sig 2\nr3=ever 2\nr4=or 1 3\nr5=always 4\n";
+pub const NORMAL_A: &str = "format=1\nsignals=2\nrows=5\nr1=nsig 1\nr2=sig 2\nr3=ever 2\nr4=or 1 3\nr5=always 4\n";
 
-fn rule(signals: usize, rows: &[&str]) -> String {
+pub fn rule(signals: usize, rows: &[&str]) -> String {
     let lines: String = (1..).zip(rows).map(|(own, row)| format!("r{own}={row}\n")).collect();
     format!("format=1\nsignals={signals}\nrows={}\n{lines}", rows.len())
 }
 
-fn take(start: &str, cycles: &[&str]) -> String {
+pub fn take(start: &str, cycles: &[&str]) -> String {
     let lines: String = (0..).zip(cycles).map(|(cycle, digits)| format!("c{cycle}={digits}\n")).collect();
     format!("format=1\nsignals={}\ncycles={}\nloop={start}\n{lines}", cycles[0].len(), cycles.len())
 }
 
-fn sheet(rows: &[&str]) -> String {
+pub fn sheet(rows: &[&str]) -> String {
     let lines: String = (1..).zip(rows).map(|(row, digits)| format!("z{row}={digits}\n")).collect();
     format!("format=1\nrows={}\ncycles={}\n{lines}", rows.len(), rows[0].len())
 }
 
-fn refused<T>(number: u8, file: u8, line: u32) -> Result<T, Refusal> {
+pub fn refused<T>(number: u8, file: u8, line: u32) -> Result<T, Refusal> {
     Err(Refusal { number, file, line })
 }
 
@@ -146,7 +146,6 @@ fn lines_at_fault() {
     assert_eq!(read_rule(&[b'x'; 65_537]), refused(1, 1, 0));
     assert_eq!(read_rule(&[b'x'; 65_536]), refused(2, 1, 1));
     assert_eq!(changed("format=1", "format=2"), refused(3, 1, 1));
-    assert_eq!(changed("format=1", "format=01"), refused(2, 1, 1));
     assert_eq!(changed("signals=2", "signals=33"), refused(4, 1, 2));
     assert_eq!(changed("r3=sig 2", "r3=sig 3"), refused(5, 1, 6));
     assert_eq!(changed("r3=sig 2", "r3=sig  2"), refused(2, 1, 6));

@@ -22,6 +22,8 @@ mod truth;
 
 #[cfg(test)]
 mod cases;
+#[cfg(test)]
+mod padded_cases;
 
 pub use judge::Verdict;
 pub use refusal::Refusal;

@@ -1,4 +1,4 @@
-//! Files as lines `key=value`, each with its line feed, and numbers.
+//! Files as lines `key=value`, each with its line feed, and the numbers in their values.
 
 use crate::refusal::Refusal;
 use std::ops::RangeInclusive;
@@ -36,7 +36,7 @@ impl<'a> Lines<'a> {
         fits.then_some(()).ok_or(self.refusal(number))
     }
 
-    /// Reads the next line; its key must be `key` and `parse` must take its value.
+    /// Reads the next line; its key must be `key`, to the byte, and `parse` must take its value.
     pub fn parsed<T>(&mut self, key: &str, parse: impl FnOnce(&'a str) -> Option<T>) -> Result<T, Refusal> {
         self.line += 1;
         self.rest.next().and_then(|line| value(line, key)).and_then(parse).ok_or(self.refusal(2))
@@ -63,9 +63,10 @@ fn value<'a>(line: &'a [u8], key: &str) -> Option<&'a str> {
     text.strip_prefix(key)?.strip_prefix('=')
 }
 
-/// A decimal number of one to five digits without leading zeros: one that is written as it was read.
+/// A decimal number in a value: one to five digits, the first of which may be zeros.
 pub fn number(text: &str) -> Option<usize> {
-    text.parse().ok().filter(|number: &usize| text.len() <= 5 && number.to_string() == text)
+    let all_digits = text.chars().all(|character| character.is_ascii_digit());
+    text.parse().ok().filter(|_| all_digits && text.len() <= 5)
 }
 
 /// As many digits 0 and 1 as `length` says.
@@ -89,11 +90,22 @@ mod tests {
 
     #[test]
     fn numbers() {
-        for (text, expected) in [("0", Some(0)), ("7", Some(7)), ("99999", Some(99_999)), ("10", Some(10))] {
-            assert_eq!(number(text), expected);
+        for (text, expected) in [("0", 0), ("7", 7), ("99999", 99_999), ("10", 10), ("01", 1), ("00012", 12)] {
+            assert_eq!(number(text), Some(expected));
         }
-        for text in ["", "00", "01", "+1", "-1", " 1", "1 ", "1.", "x", "100000", "٣"] {
+        for text in ["", "+1", "-1", "+0001", " 1", "1 ", "1.", "x", "100000", "٣"] {
             assert_eq!(number(text), None, "{text}");
+        }
+    }
+
+    /// Every number below 100,000 at every width up to five digits is read as itself, and as none at six.
+    #[test]
+    fn padded_numbers() {
+        for expected in 0..100_000 {
+            for width in expected.to_string().len()..=5 {
+                assert_eq!(number(&format!("{expected:0width$}")), Some(expected));
+            }
+            assert_eq!(number(&format!("{expected:06}")), None);
         }
     }
 }

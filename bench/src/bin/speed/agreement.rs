@@ -57,6 +57,9 @@ fn with_damage(size: Size) -> Vec<Inputs> {
     put(damaged(&given.looped, 31), |inputs| &mut inputs.looped);
     put(damaged(&given.open, 31), |inputs| &mut inputs.open);
     put(damaged(&given.sheet, 101), |inputs| &mut inputs.sheet);
+    put(damaged(&given.padded_rule, 11), |inputs| &mut inputs.padded_rule);
+    put(damaged(&given.padded_take, 61), |inputs| &mut inputs.padded_take);
+    put(damaged(&given.padded_sheet, 211), |inputs| &mut inputs.padded_sheet);
     put(damaged(&given.pendings, 5), |inputs| &mut inputs.pendings);
     put(damaged(&given.activators, 5), |inputs| &mut inputs.activators);
     put(damaged(&given.signals, 5), |inputs| &mut inputs.signals);

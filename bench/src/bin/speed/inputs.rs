@@ -21,7 +21,8 @@ pub struct Size {
 }
 
 /// What the services are given. `other` is the rule with 31 signals: it is read to its end, and then refused beside a take with 32.
-/// `runs` are the states before the first cycle, the middle one and the last, `whole_run` that after all.
+/// `runs` are the states before the first cycle, the middle one and the last, `whole_run` that after all. The padded files are the rule,
+/// the looped take and the sheet.
 #[derive(Clone)]
 pub struct Inputs {
     pub rule: Vec<u8>,
@@ -29,6 +30,9 @@ pub struct Inputs {
     pub looped: Vec<u8>,
     pub open: Vec<u8>,
     pub sheet: Vec<u8>,
+    pub padded_rule: Vec<u8>,
+    pub padded_take: Vec<u8>,
+    pub padded_sheet: Vec<u8>,
     pub pendings: Vec<u8>,
     pub activators: Vec<u8>,
     pub signals: Vec<u8>,
@@ -49,7 +53,8 @@ impl Inputs {
         let open = take_text(&cycles, "none");
         let runs = [0, size.cycles / 2, size.cycles - 1].map(|before| run_after(&rule, &cycles[..before]));
         let (whole_run, signals) = (run_after(&rule, &cycles), cycles[STEP].clone().into_bytes());
-        Inputs { rule, other, looped, open, sheet, pendings, activators, signals, runs, whole_run }
+        let [padded_rule, padded_take, padded_sheet] = [&rule, &looped, &sheet].map(|file| padded(file));
+        Inputs { rule, other, looped, open, sheet, padded_rule, padded_take, padded_sheet, pendings, activators, signals, runs, whole_run }
     }
 
     /// The run that a service hands a cycle to.
@@ -122,6 +127,22 @@ fn take_cycles(count: usize) -> Vec<String> {
 fn take_text(cycles: &[String], start: &str) -> Vec<u8> {
     let lines: String = cycles.iter().enumerate().map(|(i, digits)| format!("c{i}={digits}\n")).collect();
     format!("format=1\nsignals={SIGNALS}\ncycles={}\nloop={start}\n{lines}", cycles.len()).into_bytes()
+}
+
+/// The file with the numbers of its values in five digits.
+fn padded(file: &[u8]) -> Vec<u8> {
+    std::str::from_utf8(file).unwrap().lines().map(padded_line).collect::<String>().into_bytes()
+}
+
+fn padded_line(line: &str) -> String {
+    let (key, value) = line.split_once('=').unwrap();
+    // the digits of a cycle or of a sheet's row are no number
+    if key.starts_with(['c', 'z']) && key != "cycles" {
+        return format!("{line}\n");
+    }
+    let is_number = |word: &str| word.bytes().all(|b| b.is_ascii_digit());
+    let words: Vec<String> = value.split(' ').map(|word| if is_number(word) { format!("{word:0>5}") } else { word.to_string() }).collect();
+    format!("{key}={}\n", words.join(" "))
 }
 
 /// The pendings before the measured step and the activators at it.

@@ -4,7 +4,7 @@
 //!
 //!     speed               times, at full size and at smaller ones
 //!     speed count         instructions at full size, by callgrind
-//!     speed write FOLDER  writes the rule, the takes, the sheet and the runs of full size into a folder
+//!     speed write FOLDER  writes the rule, the takes, the sheet, these padded, and the runs of full size into a folder
 mod agreement;
 mod counting;
 mod inputs;
@@ -73,10 +73,12 @@ fn calls(words: &[String]) {
 }
 
 fn write(folder: &str) -> std::io::Result<()> {
-    let Inputs { rule, looped, open, sheet, runs: [first, middle, last], whole_run, .. } = Inputs::new(FULL);
-    let files = [("rule.txt", rule), ("take.txt", looped), ("open.txt", open), ("sheet.txt", sheet)];
-    let runs = [("run-0", first), ("run-128", middle), ("run-255", last), ("run-256", whole_run)];
-    for (name, bytes) in files.into_iter().chain(runs) {
+    let given = Inputs::new(FULL);
+    let files = [("rule.txt", given.rule), ("take.txt", given.looped), ("open.txt", given.open), ("sheet.txt", given.sheet)];
+    let padded = [("padded-rule.txt", given.padded_rule), ("padded-take.txt", given.padded_take), ("padded-sheet.txt", given.padded_sheet)];
+    let [first, middle, last] = given.runs;
+    let runs = [("run-0", first), ("run-128", middle), ("run-255", last), ("run-256", given.whole_run)];
+    for (name, bytes) in files.into_iter().chain(padded).chain(runs) {
         std::fs::write(std::path::Path::new(folder).join(name), bytes)?;
     }
     Ok(())

@@ -7,6 +7,9 @@ pub enum Service {
     ReadRule,
     ReadTake,
     ReadSheet,
+    ReadPaddedRule,
+    ReadPaddedTake,
+    ReadPaddedSheet,
     Normal,
     JudgeLooped,
     JudgeOpen,
@@ -22,10 +25,13 @@ pub enum Service {
 use Service::*;
 
 impl Service {
-    pub const ALL: [Service; 14] = [
+    pub const ALL: [Service; 17] = [
         ReadRule,
         ReadTake,
         ReadSheet,
+        ReadPaddedRule,
+        ReadPaddedTake,
+        ReadPaddedSheet,
         Normal,
         JudgeLooped,
         JudgeOpen,
@@ -44,6 +50,9 @@ impl Service {
             ReadRule => "read a rule",
             ReadTake => "read a take",
             ReadSheet => "read a sheet",
+            ReadPaddedRule => "read a rule, padded",
+            ReadPaddedTake => "read a take, padded",
+            ReadPaddedSheet => "read a sheet, padded",
             Normal => "normal form",
             JudgeLooped => "judge, looped",
             JudgeOpen => "judge, open",
@@ -61,13 +70,15 @@ impl Service {
     /// Whether the cost may depend on the rule's rows, and on the take's cycles. A cycle's does not depend on those before it; that this is
     /// so is to be seen.
     pub fn grows_in(self) -> (bool, bool) {
-        (self != ReadTake, !matches!(self, ReadRule | Normal | Step | RunBegin | FirstCycle))
+        let only_rows = matches!(self, ReadRule | ReadPaddedRule | Normal | Step | RunBegin | FirstCycle);
+        (!matches!(self, ReadTake | ReadPaddedTake), !only_rows)
     }
 
     /// The call that reads what this one reads and does no more.
     pub fn reading(self) -> Option<Call> {
         match self {
-            ReadRule | ReadTake | ReadSheet | FirstCycle | MiddleCycle | LastCycle | RunVerdict => None,
+            ReadRule | ReadTake | ReadSheet | ReadPaddedRule | ReadPaddedTake | ReadPaddedSheet => None,
+            FirstCycle | MiddleCycle | LastCycle | RunVerdict => None,
             Normal | Step | RunBegin => Some(Call { service: ReadRule, only_read: false }),
             JudgeLooped | JudgeOpen | MakeSheet | CheckSheet => Some(Call { service: self, only_read: true }),
         }
@@ -138,6 +149,9 @@ fn proved(service: Service, rule: &[u8], given: &Inputs, out: &mut [u8]) -> u64 
         ReadRule => c::read_rule(rule).map(read),
         ReadTake => c::read_take(&given.looped).map(read),
         ReadSheet => c::read_sheet(&given.sheet).map(read),
+        ReadPaddedRule => c::read_rule(&given.padded_rule).map(read),
+        ReadPaddedTake => c::read_take(&given.padded_take).map(read),
+        ReadPaddedSheet => c::read_sheet(&given.padded_sheet).map(read),
         Normal => c::normal(rule, false, out).map(length),
         JudgeLooped => c::judge_looped(rule, &given.looped).map(verdict),
         JudgeOpen => c::judge_open(rule, &given.open).map(verdict),
@@ -170,6 +184,9 @@ fn plain(service: Service, rule: &[u8], given: &Inputs, out: &mut Vec<u8>) -> u6
         ReadRule => rule::read_rule(rule).map(used).map_err(of(1)),
         ReadTake => take::read_take(&given.looped).map(used).map_err(of(2)),
         ReadSheet => sheets::read_sheet(&given.sheet).map(used).map_err(of(3)),
+        ReadPaddedRule => rule::read_rule(&given.padded_rule).map(used).map_err(of(1)),
+        ReadPaddedTake => take::read_take(&given.padded_take).map(used).map_err(of(2)),
+        ReadPaddedSheet => sheets::read_sheet(&given.padded_sheet).map(used).map_err(of(3)),
         Normal => normal::normal_file(rule, false).map(put),
         JudgeLooped => judging::judge_files(rule, &given.looped, true).map(verdict),
         JudgeOpen => judging::judge_files(rule, &given.open, false).map(verdict),
@@ -203,6 +220,9 @@ fn second(service: Service, rule: &[u8], given: &Inputs, out: &mut [u8]) -> u64 
         ReadRule => second::read_rule(rule).map(read),
         ReadTake => second::read_take(&given.looped).map(read),
         ReadSheet => second::read_sheet(&given.sheet).map(read),
+        ReadPaddedRule => second::read_rule(&given.padded_rule).map(read),
+        ReadPaddedTake => second::read_take(&given.padded_take).map(read),
+        ReadPaddedSheet => second::read_sheet(&given.padded_sheet).map(read),
         Normal => second::normal(rule, false, out).map(length),
         JudgeLooped => second::judge_looped(rule, &given.looped).map(by_number),
         JudgeOpen => second::judge_open(rule, &given.open).map(by_number),
