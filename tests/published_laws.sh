@@ -1,22 +1,20 @@
 #!/usr/bin/env bash
 # What a crate may cite of another one's proofs (docs/DECISIONS.md, 54). Crates above the reading layer know a file only by the table it
 # yields: of the reading crates' proofs they may cite the published laws alone. And contracts (src) and definitions (specs) cite
-# definitions alone: who reads what has to be believed need not look into proofs. What an accepted file's exact bytes are stands apart, in
-# the files `Exact` of the reading crates: nothing else is proved from it but what is itself about exact bytes.
+# definitions alone: who reads what has to be believed need not look into proofs. What the bytes of an accepted file are stands apart, in
+# the crate padding: nothing else is proved from it.
 set -euo pipefail
 cd "$(dirname "$0")/.."
-reading='text|rule_row|rule_file|take_file|sheet_file'
+reading='text|rule_row|rule_file|take_file|sheet_file|padding'
 others=$(grep -rnE "Rattle·($reading)\.proofs\." crates --include='*.antt' --include='*.rt' |
-    grep -vE "^crates/($reading|rule_and_take)/|\.proofs\.(Laws|Rules|Takes|Sheets|Exact)\." || true)
+    grep -vE "^crates/($reading|rule_and_take)/|\.proofs\.(Laws|Rules|Takes|Sheets)\." || true)
 if [ -n "$others" ]; then
     printf '%s\n' "$others" "tests/published_laws.sh: these cite how a reader is proved" >&2
     exit 1
 fi
-# those that may: the files themselves, and theorems on reading back what was written
-exact='^crates/[a-z_]*/proofs/(Exact|ReadBack)\.antt:'
-bytes=$(grep -rnE "Rattle·($reading)(·proofs)?\.proofs\.Exact\." crates --include='*.antt' --include='*.rt' | grep -vE "$exact" || true)
+bytes=$(grep -rnE "Rattle\.padding\.proofs\." crates --include='*.antt' --include='*.rt' || true)
 if [ -n "$bytes" ]; then
-    printf '%s\n' "$bytes" "tests/published_laws.sh: these lean on the exact bytes of an accepted file" >&2
+    printf '%s\n' "$bytes" "tests/published_laws.sh: these lean on the bytes of an accepted file" >&2
     exit 1
 fi
 proofs=$(grep -rnE "Rattle·[^ ;]*\.proofs\." crates/*/src crates/*/specs || true)

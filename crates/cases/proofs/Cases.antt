@@ -70,6 +70,13 @@ computed =
     also record { signals = refl; rows = refl; cycles = refl; found = refl }
     also (refl, refl, (refl, refl, tt))
     also (refl, refl, (refl, refl, (refl, refl, tt)))
+    also (λ buf. (refl, refl))
+    also (refl, refl)
+    also record { signals = refl; rows = refl; cycles = refl; found = refl }
+    also refl
+    also refl
+    also refl
+    also refl
     also none
 
 pub all-cases : Each Says cases

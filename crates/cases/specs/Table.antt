@@ -1,5 +1,5 @@
 -- The cases that 01 marks P ("Rules and takes to try"), one row each, and some that it does not: two on `next`, that the sheet made for
--- rule A passes, two runs (02, request 1), and such as name each word once: what `judge` prints for each verdict and for a refusal in
+-- rule A passes, two runs (02, request 1), padded files (02, request 2), and such as name each word once: what `judge` prints for each verdict and for a refusal in
 -- either file, and the normal forms of a rule with all fourteen words. Assumes nothing.
 use Prim.Native.String.{String}
 use mathlib.Core.List.{List, [], _∷_}
@@ -194,6 +194,50 @@ sheetA-z3 = "format=1" ∷ "rows=5" ∷ "cycles=2" ∷ "z1=01" ∷ "z2=01" ∷ "
 abbrev pub sheetA-z2 : File
 sheetA-z2 = "format=1" ∷ "rows=5" ∷ "cycles=2" ∷ "z1=01" ∷ "z2=00" ∷ "z3=11" ∷ "z4=11" ∷ "z5=11" ∷ []
 
+-- 02, 2: rule A, the take 10 01 and its sheet with padded values; "`loop=00000` is the first cycle"
+abbrev pub paddedA : File
+paddedA =
+    "format=00001" ∷
+    "signals=00002" ∷
+    "rows=00006" ∷
+    "r1=sig 00001" ∷
+    "r2=not 01" ∷
+    "r3=sig 2" ∷
+    "r4=ever 0003" ∷
+    "r5=or 002 00004" ∷
+    "r6=always 00005" ∷ []
+
+abbrev pub padded-10-01 : File
+padded-10-01 = "format=01" ∷ "signals=00002" ∷ "cycles=00002" ∷ "loop=00000" ∷ "c0=10" ∷ "c1=01" ∷ []
+
+abbrev pub paddedSheetA : File
+paddedSheetA = "format=00001" ∷ "rows=005" ∷ "cycles=00002" ∷ "z1=01" ∷ "z2=01" ∷ "z3=11" ∷ "z4=11" ∷ "z5=11" ∷ []
+
+-- "still five digits at most; numbers in keys may not"; and a range is checked behind the form
+abbrev pub ruleSix : File
+ruleSix = "format=1" ∷ "signals=1" ∷ "rows=000001" ∷ "r1=true" ∷ []
+
+abbrev pub ruleKey : File
+ruleKey = "format=1" ∷ "signals=1" ∷ "rows=1" ∷ "r01=true" ∷ []
+
+abbrev pub ruleNoRows : File
+ruleNoRows = "format=1" ∷ "signals=1" ∷ "rows=00000" ∷ []
+
+abbrev pub ruleNoOperand : File
+ruleNoOperand = "format=1" ∷ "signals=1" ∷ "rows=2" ∷ "r1=true" ∷ "r2=and 00000 1" ∷ []
+
+abbrev pub refusedSix : File
+refusedSix = "refused=2" ∷ "file=1" ∷ "line=3" ∷ []
+
+abbrev pub refusedKey : File
+refusedKey = "refused=2" ∷ "file=1" ∷ "line=4" ∷ []
+
+abbrev pub refusedNoRows : File
+refusedNoRows = "refused=4" ∷ "file=1" ∷ "line=3" ∷ []
+
+abbrev pub refusedNoOperand : File
+refusedNoOperand = "refused=5" ∷ "file=1" ∷ "line=5" ∷ []
+
 -- a cycle of a run, and the verdict behind it
 abbrev behind : String → Verdict → Watched
 behind digits verdict = record { digits = digits; verdict = verdict }
@@ -238,4 +282,12 @@ cases =
     checks ruleA loop0-10-01 sheetA-z2 (Starved 3) ∷
     -- runs, with the verdicts of the open takes above as they go
     runs ruleAlwaysNext (behind "10" Open ∷ behind "00" Broken ∷ []) ∷
-    runs ruleUntil (behind "10" Open ∷ behind "10" Open ∷ behind "01" Kept ∷ []) ∷ []
+    runs ruleUntil (behind "10" Open ∷ behind "10" Open ∷ behind "01" Kept ∷ []) ∷
+    -- padded files: what is written and printed of them is not padded
+    normal-form paddedA Plain normalA ∷
+    prints paddedA padded-10-01 printedA ∷
+    checks paddedA padded-10-01 paddedSheetA Passes ∷
+    prints ruleSix padded-10-01 refusedSix ∷
+    prints ruleKey padded-10-01 refusedKey ∷
+    prints ruleNoRows padded-10-01 refusedNoRows ∷
+    prints ruleNoOperand padded-10-01 refusedNoOperand ∷ []

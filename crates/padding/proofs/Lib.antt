@@ -8,3 +8,4 @@ pub mod Files
 pub mod Rules
 pub mod Takes
 pub mod Sheets
+pub mod Witness

@@ -83,7 +83,8 @@ value-back n t s h p =
 
 -- the line of a count: its key is a word
 module _ (key : List ℕ) (none : noNumber other key ≡ true) (starts : behind (after other key) 61 ≡ start) where
-  pub count-on : (v : List ℕ) (n : ℕ) (t s file : List ℕ) → paddedOf v ≡ Is n → file ≡ writtenLine key v s → PaddedFrom other t s → PaddedFrom other (writtenLine key (decimal n) t) file
+  pub count-on : (v : List ℕ) (n : ℕ) (t s file : List ℕ) → paddedOf v ≡ Is n → file ≡ writtenLine key v s
+      → PaddedFrom other t s → PaddedFrom other (writtenLine key (decimal n) t) file
   count-on v n t s file e w h = rw w (line-on key start none starts (decimal n) v t s (value-on v n e h))
 
   pub count-back : (n : ℕ) (t s : List ℕ) → n < 100000 → PaddedFrom other (writtenLine key (decimal n) t) s → LineThen key (λ v. paddedOf v ≡ Is n) t s
@@ -116,7 +117,9 @@ module _ (letter : ℕ) (plain : behind other letter ≡ other) (k : ℕ) (h : k
   key-none = rw plain (digits-begin-none-first (decimal k) (digits-in (decimal k) k (padded-written k h) .all) (unfold decimal in decimal-length 4 k .0) .0)
 
   key-behind : behind (after other (letter ∷ decimal k)) 61 ≡ other
-  key-behind = ap (λ p. behind (after p (decimal k)) 61) plain ∙ ap (λ p. behind p 61) (digits-begin-none-first (decimal k) (digits-in (decimal k) k (padded-written k h) .all) (unfold decimal in decimal-length 4 k .0) .1)
+  key-behind =
+      ap (λ p. behind (after p (decimal k)) 61) plain
+      ∙ ap (λ p. behind p 61) (digits-begin-none-first (decimal k) (digits-in (decimal k) k (padded-written k h) .all) (unfold decimal in decimal-length 4 k .0) .1)
 
 -- what is known of a value in the file: it is read, and lies within one line
 abbrev pub Reads : {A : Type 0} → (ℕ → List ℕ → Parsed A) → ℕ → ℕ → A → List ℕ → Type 0
@@ -136,7 +139,8 @@ module _ {A : Type 0} (letter : ℕ) (plain : behind other letter ≡ other) (fo
       let w = on k (l .text) (x .value) (writtenBody letter text (k + 1) ys) (drop (x .next) rest) (l .stands) (ih (omega arith)) in
       let r : rest ≡ writtenLine (letter ∷ decimal k) (l .text) (drop (x .next) rest) = l .whole ∙ rw key in
       subst (PaddedFrom other (writtenBody letter text k (x .value ∷ ys))) (sym r)
-      (line-on (letter ∷ decimal k) other (key-none letter plain k (omega arith)) (key-behind letter plain k (omega arith)) (text (x .value)) (l .text) (writtenBody letter text (k + 1) ys) (drop (x .next) rest) w))
+      (line-on (letter ∷ decimal k) other (key-none letter plain k (omega arith)) (key-behind letter plain k (omega arith))
+      (text (x .value)) (l .text) (writtenBody letter text (k + 1) ys) (drop (x .next) rest) w))
 
   -- THE WRITTEN BODY, PADDED, IS READ, and is not too long
   pub body-back : (big : 61 < letter) (most : ℕ) (Ok : ℕ → A → Type 0)
@@ -147,7 +151,8 @@ module _ {A : Type 0} (letter : ℕ) (plain : behind other letter ≡ other) (fo
   body-back big most Ok each [] k n s h ok p = rw (end-back s p) (unfold bodyLines in (refl, omega arith))
   body-back big most Ok each (x ∷ xs) k n s h ok p =
       let after-line : List ℕ = writtenBody letter text (k + 1) xs in
-      let l = line-back (letter ∷ decimal k) other (key-none letter plain k (omega arith)) (key-behind letter plain k (omega arith)) (Reads form most k x) (text x) after-line s
+      let l = line-back (letter ∷ decimal k) other (key-none letter plain k (omega arith)) (key-behind letter plain k (omega arith))
+      (Reads form most k x) (text x) after-line s
       (λ r q. each k x after-line r (omega arith) (ok .0) q) p in
       let i = body-back big most Ok each xs (k + 1) (n + 1) (l .rest) (omega arith) (ok .1) (l .goes) in
       let c : suc (length xs) * (most + 8) ≡ length xs * (most + 8) + (most + 8) = suc-mul (length xs) (most + 8) in

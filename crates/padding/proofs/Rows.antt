@@ -124,7 +124,8 @@ row-back signals hs k r t s h e p =
     let word : List ℕ = wordOf (kindAt (placeOf r)) in
     let c : placeOf r < kindCount = kind-of-row r .0 in
     let a = same-back other word (numbersText r ++ (10 ∷ t)) s (word-none (placeOf r) c) (rw (append-assoc word (numbersText r) (10 ∷ t)) at p) in
-    let w = numbers-back r t (a .0) (range-small signals k hs (omega arith) r e) (subst (λ q. PaddedFrom q (numbersText r ++ (10 ∷ t)) (a .0)) (word-after (placeOf r) c) (a .2)) in
+    let w = numbers-back r t (a .0) (range-small signals k hs (omega arith) r e)
+    (subst (λ q. PaddedFrom q (numbersText r ++ (10 ∷ t)) (a .0)) (word-after (placeOf r) c) (a .2)) in
     record {
       text = word ++ w .text;
       rest = w .rest;

@@ -30,7 +30,8 @@ use Rattle.padding.proofs.Files.{same-table, unpadded-read, written-pla
 -- ---- what is accepted
 
 as-written : (one signals rows : ℕ) (rs : List Row) → one ≡ 1 → rowsOf (formulaOf signals rows rs) ≡ rs
-    → writtenLine (bytes "format") (decimal one) (writtenLine (bytes "signals") (decimal signals) (writtenLine (bytes "rows") (decimal rows) (writtenBody 114 writtenRow 1 rs)))
+    → writtenLine (bytes "format") (decimal one) (writtenLine (bytes "signals") (decimal signals)
+    (writtenLine (bytes "rows") (decimal rows) (writtenBody 114 writtenRow 1 rs)))
     ≡ writtenRule (formulaOf signals rows rs)
 unfolding writtenRule
 as-written one signals rows rs e held = rw (e, held)
@@ -68,14 +69,24 @@ text-back f file v p =
     let a = count-back (bytes "format") refl refl 1 signals-line file (omega arith) p in
     let b = count-back (bytes "signals") refl refl s rows-line (a .rest) (omega (arith, i .most-signals)) (a .goes) in
     let c = count-back (bytes "rows") refl refl m body (b .rest) (omega (arith, i .most-rows)) (b .goes) in
-    let d = body-back 114 refl (rowValue s) writtenRow (omega arith) 20 (λ k r. inRange s k r ≡ true) (row-back s (i .most-signals)) (rowsOf f) 1 4 (c .rest) (omega (arith, n, i .most-rows)) (i .rows-in-range) (c .goes) in
+    let d = body-back 114 refl (rowValue s) writtenRow (omega arith) 20 (λ k r. inRange s k r ≡ true) (row-back s (i .most-signals))
+    (rowsOf f) 1 4 (c .rest) (omega (arith, n, i .most-rows)) (i .rows-in-range) (c .goes) in
     let whole : file ≡ writtenLine (bytes "format") (a .text) (writtenLine (bytes "signals") (b .text) (writtenLine (bytes "rows") (c .text) (c .rest))) =
     a .whole ∙ ap (writtenLine (bytes "format") (a .text)) (b .whole ∙ ap (writtenLine (bytes "signals") (b .text)) (c .whole)) in
     let short : length file ≤ 65536 =
-    omega (arith, count-most (bytes "format") refl refl a (omega arith), count-most (bytes "signals") refl refl b (omega arith), count-most (bytes "rows") refl refl c (omega arith), d .1, n, i .most-rows) in
+    omega (
+      arith,
+      count-most (bytes "format") refl refl a (omega arith),
+      count-most (bytes "signals") refl refl b (omega arith),
+      count-most (bytes "rows") refl refl c (omega arith),
+      d .1,
+      n,
+      i .most-rows,
+    ) in
     rw (le-ltb 65536 (length file) short)
     (ap (ruleLines 64 formulaOf) whole
-    ∙ (lines-read 64 formulaOf s m (rowsOf f) (a .text) (b .text) (c .text) (c .rest) (a .stands) (b .stands) (c .stands) (i .some-signals) (i .most-signals) (i .some-rows) (i .most-rows) (ap (λ z. bodyLines 114 (rowValue s) z 1 4 (c .rest)) (sym n) ∙ d .0)
+    ∙ (lines-read 64 formulaOf s m (rowsOf f) (a .text) (b .text) (c .text) (c .rest) (a .stands) (b .stands) (c .stands)
+    (i .some-signals) (i .most-signals) (i .some-rows) (i .most-rows) (ap (λ z. bodyLines 114 (rowValue s) z 1 4 (c .rest)) (sym n) ∙ d .0)
     ∙ ap (λ ps. accepted (record { signals = s; rows = m; places = ps })) (sym (v .unused-true))))
 
 -- EVERY WRITTEN FORM, PADDED IN ANY WAY, IS ACCEPTED AND YIELDS ITS FORMULA
@@ -83,7 +94,8 @@ pub rule-padded : (f : Formula) (file : List ℕ) → Valid f → Padded (writte
 rule-padded f file v p = text-back f file v (record { plain = p .plain; five = p .five })
 
 -- TWO ACCEPTED RULE FILES YIELD ONE FORMULA EXACTLY WHERE THEY DIFFER IN PADDING ALONE
-pub rule-same : (a b : List ℕ) (f g : Formula) → parseRule a ≡ accepted f → parseRule b ≡ accepted g → (f ≡ g → unpadded a ≡ unpadded b) × (unpadded a ≡ unpadded b → f ≡ g)
+pub rule-same : (a b : List ℕ) (f g : Formula) → parseRule a ≡ accepted f → parseRule b ≡ accepted g
+    → (f ≡ g → unpadded a ≡ unpadded b) × (unpadded a ≡ unpadded b → f ≡ g)
 rule-same = same-table parseRule writtenRule Valid rule-valid rule-bytes rule-padded
 
 -- without its padding an accepted file yields the same, and what we write has none

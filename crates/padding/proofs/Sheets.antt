@@ -36,7 +36,8 @@ FromFormat file = onLine 1 (keyedLine (isKey (bytes "format")) (countForm 1 1 Wr
 -- ---- what is accepted
 
 as-written : (one rows cycles : ℕ) (rs : List (List Bool)) → one ≡ 1 → rowsOf (activationOf rows cycles rs) ≡ rs
-    → writtenLine (bytes "format") (decimal one) (writtenLine (bytes "rows") (decimal rows) (writtenLine (bytes "cycles") (decimal cycles) (writtenBody 122 digitsText 1 rs)))
+    → writtenLine (bytes "format") (decimal one) (writtenLine (bytes "rows") (decimal rows)
+    (writtenLine (bytes "cycles") (decimal cycles) (writtenBody 122 digitsText 1 rs)))
     ≡ writtenSheet (activationOf rows cycles rs)
 unfolding writtenSheet
 as-written one rows cycles rs e held = rw (e, held)
@@ -87,11 +88,20 @@ text-back a file v p =
     let w = count-back (bytes "format") refl refl 1 rows-line file (omega arith) p in
     let x = count-back (bytes "rows") refl refl r cycles-line (w .rest) (omega (arith, i .most-rows)) (w .goes) in
     let y = count-back (bytes "cycles") refl refl c body (x .rest) (omega (arith, i .most-cycles)) (x .goes) in
-    let b = body-back 122 refl (λ r. digitsForm c) digitsText (omega arith) 256 (λ r ds. length ds ≡ c) (λ k ds t s h e q. digits-back c 256 (i .most-cycles) k ds t s e q) (rowsOf a) 1 4 (y .rest) (omega (arith, n .0, i .most-rows)) (n .1) (y .goes) in
+    let b = body-back 122 refl (λ r. digitsForm c) digitsText (omega arith) 256 (λ r ds. length ds ≡ c) (λ k ds t s h e q. digits-back c 256 (i .most-cycles) k ds t s e q)
+    (rowsOf a) 1 4 (y .rest) (omega (arith, n .0, i .most-rows)) (n .1) (y .goes) in
     let whole : file ≡ writtenLine (bytes "format") (w .text) (writtenLine (bytes "rows") (x .text) (writtenLine (bytes "cycles") (y .text) (y .rest))) =
     w .whole ∙ ap (writtenLine (bytes "format") (w .text)) (x .whole ∙ ap (writtenLine (bytes "rows") (x .text)) (y .whole)) in
     let short : length file ≤ 65536 =
-    omega (arith, count-most (bytes "format") refl refl w (omega arith), count-most (bytes "rows") refl refl x (omega arith), count-most (bytes "cycles") refl refl y (omega arith), b .1, n .0, i .most-rows) in
+    omega (
+      arith,
+      count-most (bytes "format") refl refl w (omega arith),
+      count-most (bytes "rows") refl refl x (omega arith),
+      count-most (bytes "cycles") refl refl y (omega arith),
+      b .1,
+      n .0,
+      i .most-rows,
+    ) in
     rw (le-ltb 65536 (length file) short)
     (ap FromFormat whole
     ∙ (lines-read r c (rowsOf a) (w .text) (x .text) (y .text) (y .rest) (w .stands) (x .stands) (y .stands)
@@ -103,7 +113,8 @@ pub sheet-padded : (a : Activation) (file : List ℕ) → Valid a → Padded (wr
 sheet-padded a file v p = text-back a file v (record { plain = p .plain; five = p .five })
 
 -- TWO ACCEPTED SHEET FILES YIELD ONE TABLE EXACTLY WHERE THEY DIFFER IN PADDING ALONE
-pub sheet-same : (f g : List ℕ) (a b : Activation) → parseSheet f ≡ accepted a → parseSheet g ≡ accepted b → (a ≡ b → unpadded f ≡ unpadded g) × (unpadded f ≡ unpadded g → a ≡ b)
+pub sheet-same : (f g : List ℕ) (a b : Activation) → parseSheet f ≡ accepted a → parseSheet g ≡ accepted b
+    → (a ≡ b → unpadded f ≡ unpadded g) × (unpadded f ≡ unpadded g → a ≡ b)
 sheet-same = same-table parseSheet writtenSheet Valid sheet-valid sheet-bytes sheet-padded
 
 -- without its padding an accepted file yields the same, and what we write has none

@@ -41,7 +41,8 @@ use Rattle.padding.proofs.Files.{same-table, unpadded-read, written-pla
 
 -- ---- the ending: a word, or a number
 
-ending-on : (cycles : ℕ) (v : List ℕ) (e : Ending) (t s : List ℕ) → EndingOf cycles v e → PaddedFrom other t s → PaddedFrom start (endingText e ++ (10 ∷ t)) (v ++ (10 ∷ s))
+ending-on : (cycles : ℕ) (v : List ℕ) (e : Ending) (t s : List ℕ) → EndingOf cycles v e → PaddedFrom other t s
+    → PaddedFrom start (endingText e ++ (10 ∷ t)) (v ++ (10 ∷ s))
 ending-on cycles v Open t s (ended z) h = rw (same-eq v (bytes "none") z) (same-on start (bytes "none") refl (step-on other 10 refl h))
 ending-on cycles v (Loop n) t s (looped m z d l) h = value-on v n d h
 
@@ -63,7 +64,8 @@ FromFormat file = onLine 1 (keyedLine (isKey (bytes "format")) (countForm 1 1 Wr
 abbrev Ends : ℕ → Ending → List ℕ → Type 0
 Ends cycles e v = (endingValue cycles v ≡ good e) × Free 10 v × (length v ≤ 5)
 
-ending-back : (cycles : ℕ) (e : Ending) (t s : List ℕ) → cycles ≤ 256 → Below cycles e → PaddedFrom start (endingText e ++ (10 ∷ t)) s → ValueThen (Ends cycles e) t s
+ending-back : (cycles : ℕ) (e : Ending) (t s : List ℕ) → cycles ≤ 256 → Below cycles e → PaddedFrom start (endingText e ++ (10 ∷ t)) s
+    → ValueThen (Ends cycles e) t s
 ending-back cycles Open t s h b p =
     let a = same-back start (bytes "none") (10 ∷ t) s refl p in
     let c = step-back other 10 t (a .0) refl (a .2) in
@@ -109,8 +111,10 @@ lines-on file t l =
     let cycles-line : List ℕ = writtenLine (bytes "cycles") (decimal c) loop-line in
     let signals-line : List ℕ = writtenLine (bytes "signals") (decimal s) cycles-line in
     let v = body-on 99 refl (λ c. digitsForm s) digitsText (λ k. digits-on s) c 0 5 (l .loop .rest) (l .held) (l .body) (omega (arith, l .cycles .most)) in
-    let w = line-on (bytes "loop") start refl refl (endingText e) (l .loop .text) body (l .loop .rest) (ending-on c (l .loop .text) e body (l .loop .rest) (ending-read c (l .loop .text) e (l .loop .stands)) v) in
-    let x = count-on (bytes "cycles") refl refl (l .cycles .text) c loop-line (l .cycles .rest) (l .signals .rest) (l .cycles .number) (l .cycles .whole) (rw (l .loop .whole, key) w) in
+    let w = line-on (bytes "loop") start refl refl (endingText e) (l .loop .text) body (l .loop .rest)
+    (ending-on c (l .loop .text) e body (l .loop .rest) (ending-read c (l .loop .text) e (l .loop .stands)) v) in
+    let x = count-on (bytes "cycles") refl refl (l .cycles .text) c loop-line (l .cycles .rest) (l .signals .rest) (l .cycles .number) (l .cycles .whole)
+    (rw (l .loop .whole, key) w) in
     let y = count-on (bytes "signals") refl refl (l .signals .text) s cycles-line (l .signals .rest) (l .format .rest) (l .signals .number) (l .signals .whole) x in
     let z = count-on (bytes "format") refl refl (l .format .text) (l .format .count) signals-line (l .format .rest) file (l .format .number) (l .format .whole) y in
     subst (λ w. PaddedFrom other w file) (as-written (l .format .count) s c e (l .held) one (held-cycles file t l) ∙ ap writtenTake (l .table)) z
@@ -125,7 +129,8 @@ take-bytes file t e = let p = lines-on file t (take-lines file t e) in record { 
 lines-read : (s c : ℕ) (e : Ending) (cs : List (List Bool)) (one-text signals-text cycles-text loop-text body : List ℕ)
     → paddedOf one-text ≡ Is 1 → paddedOf signals-text ≡ Is s → paddedOf cycles-text ≡ Is c → Ends c e loop-text
     → 1 ≤ s → s ≤ 32 → 1 ≤ c → c ≤ 256 → bodyLines 99 (λ c. digitsForm s) c 0 5 body ≡ accepted cs
-    → FromFormat (writtenLine (bytes "format") one-text (writtenLine (bytes "signals") signals-text (writtenLine (bytes "cycles") cycles-text (writtenLine (bytes "loop") loop-text body))))
+    → FromFormat (writtenLine (bytes "format") one-text (writtenLine (bytes "signals") signals-text
+    (writtenLine (bytes "cycles") cycles-text (writtenLine (bytes "loop") loop-text body))))
     ≡ accepted (traceOf s c e cs)
 lines-read s c e cs one-text signals-text cycles-text loop-text body o n m l s₁ s₂ c₁ c₂ b =
     let loop-line : List ℕ = writtenLine (bytes "loop") loop-text body in
@@ -133,7 +138,8 @@ lines-read s c e cs one-text signals-text cycles-text loop-text body o n m l s�
     count-padded (bytes "format") 1 1 WrongFormat 1 FromSignals refl refl 1 (writtenLine (bytes "signals") signals-text cycles-line) one-text o (omega arith) (omega arith)
     ∙ (count-padded (bytes "signals") 1 32 CountOutOfRange 2 FromCycles refl refl s cycles-line signals-text n s₁ s₂
     ∙ (count-padded (bytes "cycles") 1 256 CountOutOfRange 3 (FromLoop s) refl refl c loop-line cycles-text m c₁ c₂
-    ∙ (line-step (bytes "loop") loop-text body (free 10 (bytes "loop") refl) (free 61 (bytes "loop") refl) (l .1) (isKey (bytes "loop")) (endingValue c) 4 (FromBody s c) (same-refl (bytes "loop"))
+    ∙ (line-step (bytes "loop") loop-text body (free 10 (bytes "loop") refl) (free 61 (bytes "loop") refl) (l .1)
+    (isKey (bytes "loop")) (endingValue c) 4 (FromBody s c) (same-refl (bytes "loop"))
     ∙ (ap (λ p. onParsed p (λ r. refused r 4) (λ e. FromBody s c e body)) (l .0)
     ∙ ap (mapResult (traceOf s c e)) b))))
 
@@ -151,10 +157,14 @@ text-back t file v p =
     let w = count-back (bytes "format") refl refl 1 signals-line file (omega arith) p in
     let x = count-back (bytes "signals") refl refl s cycles-line (w .rest) (omega (arith, i .most-signals)) (w .goes) in
     let y = count-back (bytes "cycles") refl refl c loop-line (x .rest) (omega (arith, i .most-cycles)) (x .goes) in
-    let z = line-back (bytes "loop") start refl refl (Ends c (t .ending)) (endingText (t .ending)) body (y .rest) (λ r q. ending-back c (t .ending) body r (i .most-cycles) (i .loop) q) (y .goes) in
-    let b = body-back 99 refl (λ c. digitsForm s) digitsText (omega arith) 32 (λ c ds. length ds ≡ s) (λ k ds t r h e q. digits-back s 32 (i .most-signals) k ds t r e q) (cyclesOf t) 0 5 (z .rest) (omega (arith, n .0, i .most-cycles)) (n .1) (z .goes) in
-    let whole : file ≡ writtenLine (bytes "format") (w .text) (writtenLine (bytes "signals") (x .text) (writtenLine (bytes "cycles") (y .text) (writtenLine (bytes "loop") (z .text) (z .rest)))) =
-    w .whole ∙ ap (writtenLine (bytes "format") (w .text)) (x .whole ∙ ap (writtenLine (bytes "signals") (x .text)) (y .whole ∙ ap (writtenLine (bytes "cycles") (y .text)) (z .whole))) in
+    let z = line-back (bytes "loop") start refl refl (Ends c (t .ending)) (endingText (t .ending)) body (y .rest)
+    (λ r q. ending-back c (t .ending) body r (i .most-cycles) (i .loop) q) (y .goes) in
+    let b = body-back 99 refl (λ c. digitsForm s) digitsText (omega arith) 32 (λ c ds. length ds ≡ s) (λ k ds t r h e q. digits-back s 32 (i .most-signals) k ds t r e q)
+    (cyclesOf t) 0 5 (z .rest) (omega (arith, n .0, i .most-cycles)) (n .1) (z .goes) in
+    let whole : file ≡ writtenLine (bytes "format") (w .text) (writtenLine (bytes "signals") (x .text)
+    (writtenLine (bytes "cycles") (y .text) (writtenLine (bytes "loop") (z .text) (z .rest)))) =
+    w .whole ∙ ap (writtenLine (bytes "format") (w .text)) (x .whole ∙ ap (writtenLine (bytes "signals") (x .text))
+    (y .whole ∙ ap (writtenLine (bytes "cycles") (y .text)) (z .whole))) in
     let short : length file ≤ 65536 =
     omega (
       arith,
@@ -179,7 +189,8 @@ pub take-padded : (t : Trace) (file : List ℕ) → Valid t → Padded (writtenT
 take-padded t file v p = text-back t file v (record { plain = p .plain; five = p .five })
 
 -- TWO ACCEPTED TAKE FILES YIELD ONE TRACE EXACTLY WHERE THEY DIFFER IN PADDING ALONE
-pub take-same : (a b : List ℕ) (t u : Trace) → parseTake a ≡ accepted t → parseTake b ≡ accepted u → (t ≡ u → unpadded a ≡ unpadded b) × (unpadded a ≡ unpadded b → t ≡ u)
+pub take-same : (a b : List ℕ) (t u : Trace) → parseTake a ≡ accepted t → parseTake b ≡ accepted u
+    → (t ≡ u → unpadded a ≡ unpadded b) × (unpadded a ≡ unpadded b → t ≡ u)
 take-same = same-table parseTake writtenTake Valid take-valid take-bytes take-padded
 
 -- without its padding an accepted file yields the same, and what we write has none
