@@ -1,5 +1,6 @@
 -- What follows for any of the three files from what its accepted bytes are. Assumes nothing.
 use mathlib.Core.Path.{_≡_, sym, ap, _∙_, subst}
+use mathlib.Core.Logic.{_↔_}
 use mathlib.Core.List.{List}
 use Prim.Native.Nat.{ℕ}
 use Rattle.text.specs.Result.{Result}
@@ -11,7 +12,7 @@ module _ {A : Type 0} (parse : List ℕ → Result A) (written : A → List ℕ)
     (on : (file : List ℕ) (x : A) → parse file ≡ accepted x → Padded (written x) file)
     (back : (x : A) (file : List ℕ) → Valid x → Padded (written x) file → parse file ≡ accepted x) where
   -- two accepted files yield one table exactly where they are the same once their padding is taken off
-  pub same-table : (a b : List ℕ) (x y : A) → parse a ≡ accepted x → parse b ≡ accepted y → (x ≡ y → unpadded a ≡ unpadded b) × (unpadded a ≡ unpadded b → x ≡ y)
+  pub same-table : (a b : List ℕ) (x y : A) → parse a ≡ accepted x → parse b ≡ accepted y → (x ≡ y) ↔ (unpadded a ≡ unpadded b)
   same-table a b x y p q = (
     λ e. on a x p .plain ∙ (ap written e ∙ sym (on b y q .plain)),
     λ e.

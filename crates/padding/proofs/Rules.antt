@@ -1,6 +1,7 @@
 -- The bytes of a rule file: it is accepted exactly where it is the written form of a valid formula with its values padded. Assumes nothing.
 use mathlib.Core.Path.{_≡_, refl, sym, ap, _∙_, subst}
 use mathlib.Core.Bool.{true}
+use mathlib.Core.Logic.{_↔_}
 use mathlib.Core.List.{List}
 use Prim.Native.Nat.{ℕ, _+_, _≤_}
 use native.Mathlib.Omega.{arith}
@@ -95,7 +96,7 @@ rule-padded f file v p = text-back f file v (record { plain = p .plain; five = p
 
 -- TWO ACCEPTED RULE FILES YIELD ONE FORMULA EXACTLY WHERE THEY DIFFER IN PADDING ALONE
 pub rule-same : (a b : List ℕ) (f g : Formula) → parseRule a ≡ accepted f → parseRule b ≡ accepted g
-    → (f ≡ g → unpadded a ≡ unpadded b) × (unpadded a ≡ unpadded b → f ≡ g)
+    → (f ≡ g) ↔ (unpadded a ≡ unpadded b)
 rule-same = same-table parseRule writtenRule Valid rule-valid rule-bytes rule-padded
 
 -- without its padding an accepted file yields the same, and what we write has none

@@ -2,6 +2,7 @@
 -- Assumes nothing.
 use mathlib.Core.Path.{_≡_, refl, sym, ap, _∙_, subst}
 use mathlib.Core.Bool.{Bool}
+use mathlib.Core.Logic.{_↔_}
 use mathlib.Core.List.{List}
 use Prim.Native.Nat.{ℕ, _+_, _≤_}
 use native.Mathlib.Omega.{arith}
@@ -114,7 +115,7 @@ sheet-padded a file v p = text-back a file v (record { plain = p .plain; five = 
 
 -- TWO ACCEPTED SHEET FILES YIELD ONE TABLE EXACTLY WHERE THEY DIFFER IN PADDING ALONE
 pub sheet-same : (f g : List ℕ) (a b : Activation) → parseSheet f ≡ accepted a → parseSheet g ≡ accepted b
-    → (a ≡ b → unpadded f ≡ unpadded g) × (unpadded f ≡ unpadded g → a ≡ b)
+    → (a ≡ b) ↔ (unpadded f ≡ unpadded g)
 sheet-same = same-table parseSheet writtenSheet Valid sheet-valid sheet-bytes sheet-padded
 
 -- without its padding an accepted file yields the same, and what we write has none

@@ -1,6 +1,7 @@
 -- The bytes of a take file: it is accepted exactly where it is the written form of a valid trace with its values padded. Assumes nothing.
 use mathlib.Core.Path.{_≡_, refl, sym, ap, _∙_, subst}
 use mathlib.Core.Bool.{Bool, true, false}
+use mathlib.Core.Logic.{_↔_}
 use mathlib.Core.List.{List, _∷_, _++_}
 use Prim.Native.Nat.{ℕ, _+_, _≤_}
 use native.Mathlib.Omega.{arith}
@@ -190,7 +191,7 @@ take-padded t file v p = text-back t file v (record { plain = p .plain; five = p
 
 -- TWO ACCEPTED TAKE FILES YIELD ONE TRACE EXACTLY WHERE THEY DIFFER IN PADDING ALONE
 pub take-same : (a b : List ℕ) (t u : Trace) → parseTake a ≡ accepted t → parseTake b ≡ accepted u
-    → (t ≡ u → unpadded a ≡ unpadded b) × (unpadded a ≡ unpadded b → t ≡ u)
+    → (t ≡ u) ↔ (unpadded a ≡ unpadded b)
 take-same = same-table parseTake writtenTake Valid take-valid take-bytes take-padded
 
 -- without its padding an accepted file yields the same, and what we write has none
