@@ -80,6 +80,26 @@ unfolding paddedOf
 padded-some [] n = absurd (n refl)
 padded-some (d ∷ ds) n = refl
 
+pub padded-one : (s : List ℕ) → length s ≡ 1 → digitsOf (getD s 0 0 ∷ []) ≡ paddedOf s
+unfolding paddedOf
+padded-one [] e = absurd (omega arith)
+padded-one (d ∷ []) e = refl
+padded-one (d ∷ x ∷ ds) e = absurd (omega arith)
+
+-- one digit
+module _ (d : ℕ) where
+  pub one-low : d < 48 → Not ≡ digitsOf (d ∷ [])
+  unfolding digitsOf digitsFrom
+  one-low l = rw (lt-ltb d 48 l)
+
+  pub one-high : 48 ≤ d → 57 < d → Not ≡ digitsOf (d ∷ [])
+  unfolding digitsOf digitsFrom
+  one-high l u = rw (le-ltb d 48 l, lt-ltb 57 d u)
+
+  pub one-digit : 48 ≤ d → d ≤ 57 → Is (d - 48) ≡ digitsOf (d ∷ [])
+  unfolding digitsOf digitsFrom
+  one-digit l u = rw (le-ltb d 48 l, le-ltb 57 d u) (ap Is (omega arith))
+
 -- and one in a key: the same, but for a zero before another digit
 pub number-short : (s : List ℕ) → length s ≤ 1 → paddedOf s ≡ numberOf s
 unfolding numberOf paddedOf

@@ -1,5 +1,6 @@
 // Numbers as the files write them.
 ghost use mathlib.Core.Path.{_≡_};
+ghost use mathlib.Core.List.{[], _∷_};
 ghost use Rattle.text.specs.Number.{digitsOf, numberOf, paddedOf};
 
 // A number as the files write it, or that the bytes are none.
@@ -31,12 +32,28 @@ fn read_digits(s: &[u8]) -> Number
     Number::Is(value)
 }
 
-// A number in a value: one to five digits, the first of which may be zeros.
+// The number that one decimal digit stands for.
+fn read_digit(d: u8) -> Number
+    ensures answer { λ r. ⌜ r ≡ digitsOf (d ∷ []) ⌝ }
+{
+    if d < b'0' {
+        return Number::Not;
+    }
+    if b'9' < d {
+        return Number::Not;
+    }
+    Number::Is(d as usize - 48)
+}
+
+// A number in a value: one to five digits, the first of which may be zeros. Most have one digit, and need no loop.
 pub fn read_padded(s: &[u8]) -> Number
     ensures answer { λ r. ⌜ r ≡ paddedOf (now (s .entry)) ⌝ }
 {
     if s.len() == 0 {
         return Number::Not;
+    }
+    if s.len() == 1 {
+        return read_digit(s[0]);
     }
     read_digits(s)
 }
