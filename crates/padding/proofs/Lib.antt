@@ -2,6 +2,7 @@ pub mod Bytes
 pub mod Zeros
 pub mod Numbers
 pub mod Lines
+pub mod Headers
 pub mod Digits
 pub mod Rows
 pub mod Files

@@ -1,12 +1,11 @@
 -- Lines whose values are padded: those of counts, and the numbered ones. Assumes nothing.
 use mathlib.Core.Path.{_≡_, refl, sym, ap, _∙_, subst}
-use mathlib.Core.Bool.{Bool, true, false}
+use mathlib.Core.Bool.{true, false}
 use mathlib.Core.List.{List, [], _∷_, _++_}
-use Prim.Native.Nat.{ℕ, zero, suc, _+_, _*_, _≤_, _<_}
+use Prim.Native.Nat.{ℕ, suc, _+_, _*_, _≤_, _<_}
 use native.Mathlib.Nat.{suc-mul}
 use native.Mathlib.Omega.{arith}
 use lib.ListN.{length, drop}
-use Rattle.tables.specs.Choice.{pick}
 use Rattle.tables.proofs.Choices.{clash, pick-both}
 use Rattle.text.specs.Body.{bodyLines, EachAt}
 use Rattle.text.specs.Number.{paddedOf}
@@ -21,7 +20,7 @@ use Rattle.text.proofs.Lines.{Free, numbered-read}
 use Rattle.text.proofs.Bodies.{body-each, body-step}
 use Rattle.padding.specs.Padding.{isDigit, Before, Before.start, Before.digit, Before.other, behind, unpaddedFrom, FiveFrom}
 use Rattle.padding.proofs.Bytes.{PaddedFrom, noNumber, after, same-on, same-back}
-use Rattle.padding.proofs.Numbers.{allDigits, digits-in, digits-begin-none, number-on, NumberThen, number-back}
+use Rattle.padding.proofs.Numbers.{allDigits, digits-in, digits-begin-none, number-on, number-back}
 
 -- one byte that is no digit
 step-none : (p : Before) (x : ℕ) → isDigit x ≡ false → noNumber p (x ∷ []) ≡ true
@@ -72,6 +71,12 @@ module _ (key : List ℕ) (q : Before) (none : noNumber other key ≡ true) (beh
         goes = v .goes;
       }
 
+-- a key that is a word: a number, or a word, stands behind its equals sign
+pub record Word (key : List ℕ) : Type 0 where
+  pub none : noNumber other key ≡ true
+  pub starts : behind (after other key) 61 ≡ start
+  pub short : length key ≤ 7
+
 -- the value of a count
 pub value-on : (v : List ℕ) (n : ℕ) {t s : List ℕ} → paddedOf v ≡ Is n → PaddedFrom other t s → PaddedFrom start (decimal n ++ (10 ∷ t)) (v ++ (10 ∷ s))
 value-on v n e h = number-on v n 10 e refl h
@@ -81,17 +86,16 @@ value-back n t s h p =
     let w = number-back n 10 t s h refl p in
     record { text = w .text; rest = w .rest; whole = w .whole; stands = w .number; goes = w .goes }
 
--- the line of a count: its key is a word
-module _ (key : List ℕ) (none : noNumber other key ≡ true) (starts : behind (after other key) 61 ≡ start) where
-  pub count-on : (v : List ℕ) (n : ℕ) (t s file : List ℕ) → paddedOf v ≡ Is n → file ≡ writtenLine key v s
-      → PaddedFrom other t s → PaddedFrom other (writtenLine key (decimal n) t) file
-  count-on v n t s file e w h = rw w (line-on key start none starts (decimal n) v t s (value-on v n e h))
+-- the line of a count
+module _ (key : List ℕ) (w : Word key) where
+  pub count-on : (v : List ℕ) (n : ℕ) (t s : List ℕ) → paddedOf v ≡ Is n → PaddedFrom other t s → PaddedFrom other (writtenLine key (decimal n) t) (writtenLine key v s)
+  count-on v n t s e h = line-on key start (w .none) (w .starts) (decimal n) v t s (value-on v n e h)
 
   pub count-back : (n : ℕ) (t s : List ℕ) → n < 100000 → PaddedFrom other (writtenLine key (decimal n) t) s → LineThen key (λ v. paddedOf v ≡ Is n) t s
-  count-back n t s h p = line-back key start none starts (λ v. paddedOf v ≡ Is n) (decimal n) t s (λ r q. value-back n t r h q) p
+  count-back n t s h p = line-back key start (w .none) (w .starts) (λ v. paddedOf v ≡ Is n) (decimal n) t s (λ r q. value-back n t r h q) p
 
-  pub count-most : {n : ℕ} {t s : List ℕ} (l : LineThen key (λ v. paddedOf v ≡ Is n) t s) → length key ≤ 7 → length s ≤ 14 + length (l .rest)
-  count-most {n} l h = rw (l .whole) (omega (arith, line-length key (l .text) (l .rest), digits-in (l .text) n (l .stands) .short))
+  pub count-most : {n : ℕ} {t s : List ℕ} (l : LineThen key (λ v. paddedOf v ≡ Is n) t s) → length s ≤ 14 + length (l .rest)
+  count-most {n} l = rw (l .whole) (omega (arith, w .short, line-length key (l .text) (l .rest), digits-in (l .text) n (l .stands) .short))
 
 -- ---- the end of a file
 

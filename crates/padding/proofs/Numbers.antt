@@ -17,7 +17,7 @@ use Rattle.text.specs.declared.number.Number.{Number}
 use Rattle.text.specs.declared.number.Number.the-variants.{Is, Not}
 use Rattle.text.proofs.Numbers.{number-short, number-kept, number-read, padded-written, padded-digits}
 use Rattle.text.proofs.Laws.{decimal-length}
-use Rattle.padding.specs.Padding.{isDigit, Before, Before.start, Before.digit, Before.other, behind, isPadding, beginsWithDigit, unpaddedFrom, digitsAhead, FiveFrom}
+use Rattle.padding.specs.Padding.{isDigit, Before, Before.start, Before.digit, behind, isPadding, beginsWithDigit, unpaddedFrom, digitsAhead, FiveFrom}
 use Rattle.padding.proofs.Bytes.{PaddedFrom, noNumber, after, kept, five-kept, five-behind, back, cons-rest}
 
 -- ---- digits

@@ -1,11 +1,10 @@
 -- The value of a row, padded. Assumes nothing.
 use mathlib.Core.Path.{_≡_, refl, sym, ap, _∙_, subst}
 use mathlib.Core.Bool.{Bool, true, false}
-use mathlib.Core.List.{List, [], _∷_, _++_, append-assoc, append-nil}
+use mathlib.Core.List.{List, [], _∷_, _++_, append-assoc}
 use Prim.Native.Nat.{ℕ, _+_, _≤_, _<_}
 use native.Mathlib.Omega.{arith}
 use lib.ListN.{length, length-append}
-use Rattle.tables.specs.Choice.{pick}
 use Rattle.tables.specs.Kind.{kinds, kindCount, kindAt, wordOf, placeOf}
 use Rattle.tables.specs.declared.row.Row.{Row}
 use Rattle.tables.specs.declared.row.Row.the-variants.{Constant, Signal, Unary, Binary}
@@ -22,7 +21,7 @@ use Rattle.rule_row.proofs.Spelling.{word-no-feed, Spelled, value-spelled, valu
 use Rattle.rule_row.proofs.WrittenRows.{Small, range-small}
 use Rattle.padding.specs.Padding.{Before, Before.start, Before.digit, Before.other, behind}
 use Rattle.padding.proofs.Bytes.{PaddedFrom, noNumber, after, same-on, same-back}
-use Rattle.padding.proofs.Numbers.{digits-in, number-on, NumberThen, number-back}
+use Rattle.padding.proofs.Numbers.{digits-in, number-on, number-back}
 use Rattle.padding.proofs.Lines.{step-on, step-back, ValueThen, value-on, value-back, Reads}
 
 -- ---- the words of the table: no number begins in one, and behind it stands no digit

@@ -36,7 +36,8 @@ use Rattle.take_file.proofs.Takes.{FromBody, FromLoop, FromCycles, FromSignals,
 use Rattle.padding.specs.Padding.{Before.start, Before.other, unpadded, Padded}
 use Rattle.padding.proofs.Bytes.{PaddedFrom, same-on, same-back}
 use Rattle.padding.proofs.Numbers.{digits-in}
-use Rattle.padding.proofs.Lines.{step-on, step-back, ValueThen, LineThen, line-on, line-back, value-on, value-back, count-on, count-back, count-most, body-on, body-back}
+use Rattle.padding.proofs.Lines.{step-on, step-back, ValueThen, line-on, line-back, value-on, value-back, body-on, body-back}
+use Rattle.padding.proofs.Headers.{signals-word, cycles-word, headed, header-on, header-back}
 use Rattle.padding.proofs.Digits.{digits-on, digits-back}
 use Rattle.padding.proofs.Files.{same-table, unpadded-read, written-plain}
 
@@ -93,12 +94,11 @@ ending-back cycles (Loop n) t s h b p =
 
 -- ---- what is accepted
 
-as-written : (one signals cycles : ℕ) (ending : Ending) (cs : List (List Bool)) → one ≡ 1 → cyclesOf (traceOf signals cycles ending cs) ≡ cs
-    → writtenLine (bytes "format") (decimal one) (writtenLine (bytes "signals") (decimal signals) (writtenLine (bytes "cycles") (decimal cycles)
-    (writtenLine (bytes "loop") (endingText ending) (writtenBody 99 digitsText 0 cs))))
+as-written : (signals cycles : ℕ) (ending : Ending) (cs : List (List Bool)) → cyclesOf (traceOf signals cycles ending cs) ≡ cs
+    → headed (bytes "signals") (bytes "cycles") (decimal 1) (decimal signals) (decimal cycles) (writtenLine (bytes "loop") (endingText ending) (writtenBody 99 digitsText 0 cs))
     ≡ writtenTake (traceOf signals cycles ending cs)
 unfolding writtenTake
-as-written one signals cycles ending cs e held = rw (e, held)
+as-written signals cycles ending cs held = rw held
 
 lines-on : (file : List ℕ) (t : Trace) → LinesOf file t → PaddedFrom other (writtenTake t) file
 lines-on file t l =
@@ -108,17 +108,16 @@ lines-on file t l =
     let one : l .format .count ≡ 1 = omega (arith, l .format .least, l .format .most) in
     let key : l .loop .key ≡ bytes "loop" = same-eq (l .loop .key) (bytes "loop") (l .loop .named) in
     let body : List ℕ = writtenBody 99 digitsText 0 (l .held) in
-    let loop-line : List ℕ = writtenLine (bytes "loop") (endingText e) body in
-    let cycles-line : List ℕ = writtenLine (bytes "cycles") (decimal c) loop-line in
-    let signals-line : List ℕ = writtenLine (bytes "signals") (decimal s) cycles-line in
-    let v = body-on 99 refl (λ c. digitsForm s) digitsText (λ k. digits-on s) c 0 5 (l .loop .rest) (l .held) (l .body) (omega (arith, l .cycles .most)) in
-    let w = line-on (bytes "loop") start refl refl (endingText e) (l .loop .text) body (l .loop .rest)
-    (ending-on c (l .loop .text) e body (l .loop .rest) (ending-read c (l .loop .text) e (l .loop .stands)) v) in
-    let x = count-on (bytes "cycles") refl refl (l .cycles .text) c loop-line (l .cycles .rest) (l .signals .rest) (l .cycles .number) (l .cycles .whole)
-    (rw (l .loop .whole, key) w) in
-    let y = count-on (bytes "signals") refl refl (l .signals .text) s cycles-line (l .signals .rest) (l .format .rest) (l .signals .number) (l .signals .whole) x in
-    let z = count-on (bytes "format") refl refl (l .format .text) (l .format .count) signals-line (l .format .rest) file (l .format .number) (l .format .whole) y in
-    subst (λ w. PaddedFrom other w file) (as-written (l .format .count) s c e (l .held) one (held-cycles file t l) ∙ ap writtenTake (l .table)) z
+    let loop-line : List ℕ = writtenLine (bytes "loop") (l .loop .text) (l .loop .rest) in
+    let whole : file ≡ headed (bytes "signals") (bytes "cycles") (l .format .text) (l .signals .text) (l .cycles .text) loop-line =
+    l .format .whole ∙ ap (writtenLine (bytes "format") (l .format .text)) (l .signals .whole ∙ ap (writtenLine (bytes "signals") (l .signals .text))
+    (l .cycles .whole ∙ ap (writtenLine (bytes "cycles") (l .cycles .text)) (l .loop .whole ∙ rw key))) in
+    let b = body-on 99 refl (λ c. digitsForm s) digitsText (λ k. digits-on s) c 0 5 (l .loop .rest) (l .held) (l .body) (omega (arith, l .cycles .most)) in
+    let d = line-on (bytes "loop") start refl refl (endingText e) (l .loop .text) body (l .loop .rest)
+    (ending-on c (l .loop .text) e body (l .loop .rest) (ending-read c (l .loop .text) e (l .loop .stands)) b) in
+    let h = header-on (bytes "signals") (bytes "cycles") signals-word cycles-word (l .format .text) (l .signals .text) (l .cycles .text) s c
+    (writtenLine (bytes "loop") (endingText e) body) loop-line (l .format .number ∙ ap Is one) (l .signals .number) (l .cycles .number) d in
+    subst (λ w. PaddedFrom other w file) (as-written s c e (l .held) (held-cycles file t l) ∙ ap writtenTake (l .table)) (rw whole h)
 
 -- EVERY ACCEPTED TAKE FILE IS THE WRITTEN FORM OF ITS TRACE, PADDED
 pub take-bytes : (file : List ℕ) (t : Trace) → parseTake file ≡ accepted t → Padded (writtenTake t) file
@@ -130,8 +129,7 @@ take-bytes file t e = let p = lines-on file t (take-lines file t e) in record { 
 lines-read : (s c : ℕ) (e : Ending) (cs : List (List Bool)) (one-text signals-text cycles-text loop-text body : List ℕ)
     → paddedOf one-text ≡ Is 1 → paddedOf signals-text ≡ Is s → paddedOf cycles-text ≡ Is c → Ends c e loop-text
     → 1 ≤ s → s ≤ 32 → 1 ≤ c → c ≤ 256 → bodyLines 99 (λ c. digitsForm s) c 0 5 body ≡ accepted cs
-    → FromFormat (writtenLine (bytes "format") one-text (writtenLine (bytes "signals") signals-text
-    (writtenLine (bytes "cycles") cycles-text (writtenLine (bytes "loop") loop-text body))))
+    → FromFormat (headed (bytes "signals") (bytes "cycles") one-text signals-text cycles-text (writtenLine (bytes "loop") loop-text body))
     ≡ accepted (traceOf s c e cs)
 lines-read s c e cs one-text signals-text cycles-text loop-text body o n m l s₁ s₂ c₁ c₂ b =
     let loop-line : List ℕ = writtenLine (bytes "loop") loop-text body in
@@ -152,37 +150,18 @@ text-back t file v p =
     let c : ℕ = t .cycles in
     let n = cycles-held t (valid-full t v) (i .most-signals) (i .most-cycles) in
     let body : List ℕ = writtenBody 99 digitsText 0 (cyclesOf t) in
-    let loop-line : List ℕ = writtenLine (bytes "loop") (endingText (t .ending)) body in
-    let cycles-line : List ℕ = writtenLine (bytes "cycles") (decimal c) loop-line in
-    let signals-line : List ℕ = writtenLine (bytes "signals") (decimal s) cycles-line in
-    let w = count-back (bytes "format") refl refl 1 signals-line file (omega arith) p in
-    let x = count-back (bytes "signals") refl refl s cycles-line (w .rest) (omega (arith, i .most-signals)) (w .goes) in
-    let y = count-back (bytes "cycles") refl refl c loop-line (x .rest) (omega (arith, i .most-cycles)) (x .goes) in
-    let z = line-back (bytes "loop") start refl refl (Ends c (t .ending)) (endingText (t .ending)) body (y .rest)
-    (λ r q. ending-back c (t .ending) body r (i .most-cycles) (i .loop) q) (y .goes) in
+    let h = header-back (bytes "signals") (bytes "cycles") signals-word cycles-word s c (writtenLine (bytes "loop") (endingText (t .ending)) body) file
+    (omega (arith, i .most-signals)) (omega (arith, i .most-cycles)) p in
+    let l = line-back (bytes "loop") start refl refl (Ends c (t .ending)) (endingText (t .ending)) body (h .rest)
+    (λ r q. ending-back c (t .ending) body r (i .most-cycles) (i .loop) q) (h .goes) in
     let b = body-back 99 refl (λ c. digitsForm s) digitsText (omega arith) 32 (λ c ds. length ds ≡ s) (λ k ds t r h e q. digits-back s 32 (i .most-signals) k ds t r e q)
-    (cyclesOf t) 0 5 (z .rest) (omega (arith, n .0, i .most-cycles)) (n .1) (z .goes) in
-    let whole : file ≡ writtenLine (bytes "format") (w .text) (writtenLine (bytes "signals") (x .text)
-    (writtenLine (bytes "cycles") (y .text) (writtenLine (bytes "loop") (z .text) (z .rest)))) =
-    w .whole ∙ ap (writtenLine (bytes "format") (w .text)) (x .whole ∙ ap (writtenLine (bytes "signals") (x .text))
-    (y .whole ∙ ap (writtenLine (bytes "cycles") (y .text)) (z .whole))) in
+    (cyclesOf t) 0 5 (l .rest) (omega (arith, n .0, i .most-cycles)) (n .1) (l .goes) in
     let short : length file ≤ 65536 =
-    omega (
-      arith,
-      count-most (bytes "format") refl refl w (omega arith),
-      count-most (bytes "signals") refl refl x (omega arith),
-      count-most (bytes "cycles") refl refl y (omega arith),
-      ap length (z .whole),
-      line-length (bytes "loop") (z .text) (z .rest),
-      z .stands .2,
-      b .1,
-      n .0,
-      i .most-cycles,
-    ) in
+    omega (arith, h .short, ap length (l .whole), line-length (bytes "loop") (l .text) (l .rest), l .stands .2, b .1, n .0, i .most-cycles) in
     rw (le-ltb 65536 (length file) short)
-    (ap FromFormat whole
-    ∙ (lines-read s c (t .ending) (cyclesOf t) (w .text) (x .text) (y .text) (z .text) (z .rest) (w .stands) (x .stands) (y .stands) (z .stands)
-    (i .some-signals) (i .most-signals) (i .some-cycles) (i .most-cycles) (ap (λ k. bodyLines 99 (λ c. digitsForm s) k 0 5 (z .rest)) (sym (n .0)) ∙ b .0)
+    (ap FromFormat (h .whole ∙ ap (headed (bytes "signals") (bytes "cycles") (h .one-text) (h .second-text) (h .third-text)) (l .whole))
+    ∙ (lines-read s c (t .ending) (cyclesOf t) (h .one-text) (h .second-text) (h .third-text) (l .text) (l .rest) (h .one) (h .second-number) (h .third-number) (l .stands)
+    (i .some-signals) (i .most-signals) (i .some-cycles) (i .most-cycles) (ap (λ k. bodyLines 99 (λ c. digitsForm s) k 0 5 (l .rest)) (sym (n .0)) ∙ b .0)
     ∙ ap (λ ls. accepted (record { signals = s; cycles = c; ending = t .ending; lanes = ls })) (sym (v .unused))))
 
 -- EVERY WRITTEN FORM, PADDED IN ANY WAY, IS ACCEPTED AND YIELDS ITS TRACE

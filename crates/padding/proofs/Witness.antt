@@ -6,7 +6,6 @@ use native.Mathlib.Omega.{arith}
 use lib.ListN.{length}
 use Rattle.tables.specs.Bytes.{bytes, sameBytes}
 use Rattle.tables.specs.Kind.{kinds, kindAt}
-use Rattle.tables.specs.Bit.{bitAt, wordFrom, laneOf}
 use Rattle.tables.specs.Place.{tabulateFrom}
 use Rattle.tables.specs.declared.row.Formula.{Formula}
 use Rattle.tables.specs.declared.trace.Trace.{Trace}

@@ -1,31 +1,25 @@
 -- A row and its written form. Assumes nothing.
 use mathlib.Core.Path.{_≡_, refl, sym, ap, _∙_}
-use mathlib.Core.Bool.{Bool, true, false}
-use mathlib.Core.List.{List, [], _∷_, _++_, append-nil}
+use mathlib.Core.Bool.{true}
+use mathlib.Core.List.{List, _∷_, _++_, append-nil}
 use Prim.Native.Nat.{ℕ, _≤_, _<_}
 use native.Mathlib.Omega.{arith}
-use lib.Dec.{eqb}
-use borrow.Author.Tests.{eqb-true}
 use Rattle.tables.specs.Choice.{pick}
-use Rattle.tables.specs.Bytes.{sameBytes}
-use Rattle.tables.specs.Kind.{kinds, kindCount, kindAt, wordOf, placeOf, withNumbers, numbersIn, firstNumber, secondNumber}
+use Rattle.tables.specs.Kind.{kindAt, wordOf, placeOf, numbersIn, firstNumber, secondNumber}
 use Rattle.tables.specs.declared.refusal.Reason.the-variants.{BadReference}
 use Rattle.tables.specs.declared.row.Row.{Row}
 use Rattle.tables.specs.declared.row.Row.the-variants.{Constant, Signal, Unary, Binary}
-use Rattle.tables.proofs.KindTable.{below, kind-of-row, numbers-again, numbers-own, numbers-count}
-use Rattle.text.specs.Search.{firstWhere, further}
+use Rattle.tables.proofs.KindTable.{kind-of-row, numbers-own}
 use Rattle.text.specs.Number.{paddedOf}
 use Rattle.text.specs.Result.{Parsed, onParsed}
 use Rattle.text.specs.Result.Parsed.{good, bad}
 use Rattle.text.specs.Written.{decimal}
-use Rattle.text.specs.declared.search.Found.{Found}
-use Rattle.text.specs.declared.search.Found.the-variants.{At, Nothing}
 use Rattle.text.specs.declared.number.Number.the-variants.{Is}
 use Rattle.tables.proofs.Choices.{clash, each-pick}
 use Rattle.text.proofs.Numbers.{padded-written, padded-own, each-number}
 use Rattle.text.proofs.Lines.{Free, free-append, first-at, first-free, cut-front, cut-behind, no-digit-below, free-decimal}
-use Rattle.text.proofs.Headers.{lacks, free, free-below}
-use Rattle.rule_row.specs.Row.{kindNamed, formOf, rowForm, inRange, rowValue}
+use Rattle.text.proofs.Headers.{free-below}
+use Rattle.rule_row.specs.Row.{formOf, rowForm, inRange, rowValue}
 use Rattle.rule_row.specs.Written.{numbersText, writtenRow}
 use Rattle.rule_row.proofs.Spelling.{word-no-space, word-no-feed, form-row, Spelled, value-spelled}
 use Rattle.rule_row.proofs.Laws.{numbers-below}

@@ -3,14 +3,14 @@
 use mathlib.Core.Path.{_≡_, refl, sym, ap, ap₂, _∙_, subst}
 use mathlib.Core.Bool.{Bool, true, false}
 use mathlib.Core.List.{List, [], _∷_, _++_}
-use Prim.Native.Nat.{ℕ, zero, suc, _+_, _*_, _-_, _≤_, _<_}
+use Prim.Native.Nat.{ℕ, zero, suc, _+_, _-_, _≤_, _<_}
 use native.Mathlib.Numerals.{add-one}
 use native.Mathlib.Omega.{arith}
 use native.Mathlib.Decide.{ℕ-discrete}
-use lib.Dec.{ltb, eqb}
+use lib.Dec.{eqb}
 use lib.ListN.{length, getD, take, drop, take-append-drop}
 use lib.Seq.{take-nil, drop-cons, drop-drop, length-take-le}
-use borrow.Author.Tests.{ltb-false, eqb-true, eq-eqb, ne-eqb}
+use borrow.Author.Tests.{eqb-true, eq-eqb, ne-eqb}
 use Rattle.tables.specs.Choice.{pick}
 use Rattle.tables.specs.declared.refusal.Reason.the-variants.{WrongForm}
 use Rattle.text.specs.Search.{firstWhere, firstOf, further, part}
@@ -22,11 +22,9 @@ use Rattle.text.specs.Result.Parsed.{good, bad}
 use Rattle.text.specs.Written.{writtenLine}
 use Rattle.text.specs.declared.line.Cut.{Cut}
 use Rattle.text.specs.declared.line.Cut.the-variants.{Line, Absent}
-use Rattle.text.specs.declared.number.Number.{Number}
-use Rattle.text.specs.declared.number.Number.the-variants.{Is, Not}
 use Rattle.text.specs.declared.search.Found.{Found}
 use Rattle.text.specs.declared.search.Found.the-variants.{At, Nothing}
-use Rattle.tables.proofs.Choices.{clash, each-pick, pick-both}
+use Rattle.tables.proofs.Choices.{clash, pick-both}
 use Rattle.text.proofs.Searching.{hit, further-inv}
 use Rattle.text.proofs.Numbers.{each-number}
 use Rattle.text.proofs.Lines.{Free, number-free, cut-found, cut-at, cut-within, cut-written, front, front-length, keyed-absent, keyed-other, keyed-bad, keyed-good}

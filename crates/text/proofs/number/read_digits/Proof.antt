@@ -1,6 +1,6 @@
 use Rattle.text.proofs.Numbers.{DigitsAt, digits-long, digits-start, digits-bound, digits-end}
 use borrow.Author.Needs.{needs}
-use Prim.Native.Nat.{_<_, _-_}
+use Prim.Native.Nat.{_-_}
 use native.Mathlib.Omega.{arith}
 use lib.ListN.{length}
 use Rattle.text.proofs.Numbers.{digit-low, digit-high, digit}
