@@ -3,3 +3,4 @@ pub mod Answers
 pub mod Lengths
 pub mod Rows
 pub mod Texts
+pub mod Room

@@ -4,7 +4,7 @@ use mathlib.Core.Path.{_≡_}
 use mathlib.Core.List.{List}
 use lib.Dec.{leb}
 use lib.ListN.{length}
-use Rattle.tables.specs.Refusal.{numbered}
+use Rattle.tables.specs.Refusal.{number, numbered}
 use Rattle.tables.specs.Choice.{pick}
 use Rattle.tables.specs.declared.refusal.Refusal.{Refusal}
 use Rattle.writing.specs.Lent.{overlaid}
@@ -14,6 +14,10 @@ use Rattle.writing.specs.declared.answer.Bytes.the-variants.{Count, Refu
 -- "A lent output buffer is shorter than the output": 10, file and line 0
 abbrev pub tooShort : Refusal
 tooShort = record { reason = numbered 10; file = 0; line = 0 }
+
+-- an answer is a refusal with this number of the list, where `turned` makes the answer of a refusal
+abbrev pub RefusedWith : {A : Type 0} → ℕ → (Refusal → A) → A → Type 0
+RefusedWith n turned answer = (why : Refusal) × (answer ≡ turned why) × (number (why .reason) ≡ n)
 
 -- the output's length where it fits
 abbrev pub writtenAnswer : List ℕ → List ℕ → Bytes
