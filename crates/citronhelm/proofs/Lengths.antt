@@ -1,7 +1,7 @@
 -- How many bytes are always enough for what a service writes: the numbers that include/citronhelm.h gives. Assumes nothing.
-use Prim.Native.Nat.{ℕ, _+_, _*_, _≤_, _<_, min}
+use Prim.Native.Nat.{ℕ, _+_, _*_, _≤_, min}
 use mathlib.Core.Path.{_≡_, subst⁻¹}
-use mathlib.Core.Bool.{Bool, true, false}
+use mathlib.Core.Bool.{Bool}
 use mathlib.Core.List.{List, [], _∷_, map}
 use native.Mathlib.Omega.{arith}
 use lib.ListN.{length, take, length-take}
@@ -140,8 +140,3 @@ sheet-enough a full rows cycles =
       decimal-most (a .rows) (omega arith),
       decimal-most (a .cycles) (omega arith),
     )
-
--- a sheet that is written is told apart from `none`, whose number is 0
-pub sheet-some : (a : Activation) → 0 < length (writtenSheet a)
-unfolding writtenSheet
-sheet-some a = omega arith

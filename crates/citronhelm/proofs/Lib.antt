@@ -2,3 +2,4 @@ pub mod Lengths
 pub mod OneAnswer
 pub mod Runs
 pub mod Told
+pub mod Lending

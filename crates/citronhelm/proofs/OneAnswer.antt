@@ -7,7 +7,7 @@ use Rattle.tables.specs.declared.row.Formula.{Formula}
 use Rattle.tables.specs.declared.trace.Activation.{Activation}
 use Rattle.tables.specs.declared.trace.Trace.{Trace}
 use Rattle.answer_code.specs.Code.{bytesCode, checkCode, judgeCode, makerCode}
-use Rattle.citronhelm.specs.Service.{CheckedAs, JudgedAs, MadeAs, PrintedAs}
+use Rattle.citronhelm.specs.Service.{CheckedAs, JudgedAs, MadeAs, MeasuredAs, PrintedAs}
 
 pub judged-once : {o : Outcome} {f : Formula} {t : Trace} {r s : ℕ} → JudgedAs o f t r → JudgedAs o f t s → r ≡ s
 judged-once x y = x .coded ∙ ap judgeCode (y .answers .only (x .answer) (x .answers .so)) ∙ sym (y .coded)
@@ -16,6 +16,9 @@ pub made-once : {f : Formula} {t : Trace} {before after other : List ℕ} {r s :
 made-once {after = after} x y =
     let e = y .makes .only after (x .answer) (x .makes .so) in
     (x .coded ∙ ap makerCode (e .1) ∙ sym (y .coded), e .0)
+
+pub measured-once : {f : Formula} {t : Trace} {r s : ℕ} → MeasuredAs f t r → MeasuredAs f t s → r ≡ s
+measured-once x y = x .coded ∙ ap bytesCode (y .measures .only (x .answer) (x .measures .so)) ∙ sym (y .coded)
 
 pub checked-once : {f : Formula} {t : Trace} {a : Activation} {r s : ℕ} → CheckedAs f t a r → CheckedAs f t a s → r ≡ s
 checked-once x y = x .coded ∙ ap checkCode (y .answers .only (x .answer) (x .answers .so)) ∙ sym (y .coded)

@@ -1,13 +1,10 @@
 -- A length that is answered is never taken for a refusal: it is at most what include/citronhelm.h says, which lies far below the highest
 -- bit. Assumes nothing.
-use Prim.Native.Nat.{ℕ, _+_, _*_, _≤_, _<_}
+use Prim.Native.Nat.{ℕ, _*_, _≤_, _<_}
 use mathlib.Core.Path.{_≡_, sym, _∙_}
-use mathlib.Core.Bool.{Bool, true, false}
 use mathlib.Core.List.{List, []}
 use native.Mathlib.Omega.{arith}
-use lib.Dec.{leb}
 use lib.ListN.{length}
-use Rattle.tables.specs.Choice.{pick}
 use Rattle.tables.specs.Refusal.{onOutcome}
 use Rattle.tables.specs.declared.refusal.Outcome.{Outcome}
 use Rattle.tables.specs.declared.refusal.Outcome.the-variants.{Accepted, Refused}
@@ -26,28 +23,25 @@ use Rattle.normal_form.specs.declared.sign.Sign.{Sign}
 use Rattle.normal_form.specs.declared.sign.Sign.the-variants.{Plain}
 use Rattle.normal_form.specs.Numbering.{normalForm}
 use Rattle.normal_form.proofs.Ranges.{form-normal}
-use Rattle.writing.specs.Answer.{tooShort, writtenAnswer}
+use Rattle.writing.specs.Answer.{writtenAnswer}
+use Rattle.writing.specs.declared.answer.Bytes.{Bytes}
 use Rattle.writing.specs.declared.answer.Bytes.the-variants.{Count, Refused as BytesRefused}
+use Rattle.writing.proofs.Room.{written-length}
 use Rattle.normal_file.specs.Answer.{boundOf, output}
 use Rattle.judge_text.specs.Answer.{Prints}
 use Rattle.step.specs.Step.{formAnswer, formOutcome}
 use Rattle.sheet_maker.specs.declared.MakerAnswer.the-variants.{Written}
+use Rattle.sheet_maker.specs.Made.{IsMade}
 use Rattle.sheet_maker.specs.Answer.{Answers, Answers.none, Answers.sheet, MakesOn, answerOf}
+use Rattle.sheet_length.specs.Answer.{Measured.sheet, Measured.none, MeasuresOn}
+use Rattle.sheet_length.proofs.Lending.{sheet-some}
 use Rattle.run_state.specs.State.{stateOf}
 use Rattle.citronhelm.proofs.Runs.{state-length}
-use Rattle.citronhelm.proofs.Lengths.{normal-enough, sheet-enough, sheet-some, step-enough, text-enough}
+use Rattle.citronhelm.proofs.Lengths.{normal-enough, sheet-enough, step-enough, text-enough}
 
 -- NO LENGTH IS TAKEN FOR A REFUSAL: the highest bit of a length of at most 33,567 is not set
 pub length-below : (n : ℕ) → n ≤ 33567 → n < 9223372036854775808
 length-below n h = omega arith
-
--- the length of what is written
-written-length : (out buf : List ℕ) (n : ℕ) → writtenAnswer out buf ≡ Count n → n ≡ length out
-written-length out buf n e = by (leb (length out) (length buf)) e
-  where
-    by : (b : Bool) → pick b (Count (length out)) (BytesRefused tooShort) ≡ Count n → n ≡ length out
-    by true q = cc
-    by false q = clash (cc)
 
 -- what was read is in range
 module _ (rule : List ℕ) (f : Formula) (read : parseRule rule ≡ accepted f) where
@@ -56,7 +50,10 @@ module _ (rule : List ℕ) (f : Formula) (read : parseRule rule ≡ accepted f) 
 
   -- the normal form, and the bound on it
   pub normal-told : (s : Sign) (buf : List ℕ) (n : ℕ) → writtenAnswer (output f s) buf ≡ Count n → n ≤ 2845
-  normal-told s buf n q = omega (arith, written-length (output f s) buf n q, normal-enough f s fine)
+  normal-told s buf n q = omega (arith, written-length (output f s) buf q, normal-enough f s fine)
+
+  pub normal-length-told : (s : Sign) → length (output f s) ≤ 2845
+  normal-length-told s = normal-enough f s fine
 
   pub bound-told : boundOf f ≤ 2845
   bound-told = omega (arith, fine .most-rows)
@@ -71,31 +68,39 @@ module _ (rule : List ℕ) (f : Formula) (read : parseRule rule ≡ accepted f) 
 
   -- a run that begins
   pub begin-told : (buf : List ℕ) (n : ℕ) → writtenAnswer (stateOf f []) buf ≡ Count n → n ≡ 1220
-  begin-told buf n q = written-length (stateOf f []) buf n q ∙ state-length f []
+  begin-told buf n q = written-length (stateOf f []) buf q ∙ state-length f []
 
-  -- a sheet, which has some bytes, so that it is not taken for `none` either
-  module _ (take : List ℕ) (t : Trace) (taken : parseTake take ≡ accepted t) (before after : List ℕ) (n : ℕ) where
-    sheet-written : Answers f t before after (Written n) → (0 < n) × (n ≤ 33567)
-    sheet-written (sheet s a made answered left) =
+  -- a sheet, which has some bytes, so that it is not taken for `none` either; and its length
+  module _ (take : List ℕ) (t : Trace) (taken : parseTake take ≡ accepted t) where
+    made-short : (a : Activation) → IsMade (normalForm f Plain) t a → length (writtenSheet a) ≤ 33567
+    made-short a made =
         let range = take-valid take t taken .range in
-        let size = sheet-enough a (made .places) (omega (arith, made .rows, form-normal f Plain fine .most-rows)) (omega (arith, made .cycles, range .most-cycles)) in
-        let same : n ≡ length (writtenSheet a) = by (leb (length (writtenSheet a)) (length before)) a answered in
-        (omega (arith, same, sheet-some a), omega (arith, same, size))
-      where
-        by : (b : Bool) (a : Activation) → Written n ≡ answerOf (pick b (Count (length (writtenSheet a))) (BytesRefused tooShort)) → n ≡ length (writtenSheet a)
-        by true a q = cc
-        by false a q = clash (cc)
-    sheet-written (none s answered left) = clash (cc)
+        sheet-enough a (made .places) (omega (arith, made .rows, form-normal f Plain fine .most-rows)) (omega (arith, made .cycles, range .most-cycles))
 
-    pub sheet-told : (o : Outcome) → MakesOn o f t before after (Written n) → (0 < n) × (n ≤ 33567)
-    sheet-told Accepted x = sheet-written x
-    sheet-told (Refused why) x = let q = x .0 in clash (cc)
+    sheet-written : (before after : List ℕ) (n : ℕ) → Answers f t before after (Written n) → (0 < n) × (n ≤ 33567)
+    sheet-written before after n (sheet s a made answered left) =
+        let same : n ≡ length (writtenSheet a) = written-length (writtenSheet a) before (by (writtenAnswer (writtenSheet a) before) answered) in
+        (omega (arith, same, sheet-some a), omega (arith, same, made-short a made))
+      where
+        by : (b : Bytes) → Written n ≡ answerOf b → b ≡ Count n
+        by (Count m) q = cc
+        by (BytesRefused why) q = clash (cc)
+    sheet-written before after n (none s answered left) = clash (cc)
+
+    pub sheet-told : (before after : List ℕ) (n : ℕ) (o : Outcome) → MakesOn o f t before after (Written n) → (0 < n) × (n ≤ 33567)
+    sheet-told before after n Accepted x = sheet-written before after n x
+    sheet-told before after n (Refused why) x = let q = x .0 in clash (cc)
+
+    pub sheet-length-told : (n : ℕ) (o : Outcome) → MeasuresOn o f t (Count n) → n ≤ 33567
+    sheet-length-told n Accepted (sheet s a made e) = let same : n ≡ length (writtenSheet a) = cc in omega (arith, same, made-short a made)
+    sheet-length-told n Accepted (none s e) = let same : n ≡ 0 = cc in omega arith
+    sheet-length-told n (Refused why) e = clash (cc)
 
 -- the text of `judge`
 pub text-told : (rule take before after : List ℕ) (n : ℕ) → Prints rule take before after (Count n) → n ≤ 64
 text-told rule take before after n prints =
     omega (
       arith,
-      written-length (prints .text) before n (sym (prints .delivered .answered)),
+      written-length (prints .text) before (sym (prints .delivered .answered)),
       text-enough (parseRule rule) (parseTake take) (prints .text) (prints .is-text),
     )

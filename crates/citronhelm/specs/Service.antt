@@ -18,6 +18,7 @@ use Rattle.judging.specs.declared.verdict.Answer.{Answer}
 use Rattle.judging.specs.Answer.{Answers}
 use Rattle.sheet_maker.specs.declared.MakerAnswer.{MakerAnswer}
 use Rattle.sheet_maker.specs.Answer.{MakesOn}
+use Rattle.sheet_length.specs.Answer.{MeasuresOn}
 use Rattle.checking.specs.declared.finding.CheckAnswer.{CheckAnswer}
 use Rattle.checking.specs.Answer.{CheckAnswers, metOutcome}
 use Rattle.run.specs.Calls.{GivesVerdict, TakesCycle}
@@ -43,6 +44,12 @@ pub record MadeAs (f : Formula) (t : Trace) (before after : List ℕ) (r : ℕ) 
   pub answer : MakerAnswer
   pub makes : TheOnlyPair (MakesOn (meetingOutcome Either f t) f t before) after answer
   pub coded : r ≡ makerCode answer
+
+-- the sheet's length, 0 where there is none, where the two tables meet
+pub record MeasuredAs (f : Formula) (t : Trace) (r : ℕ) : Type 0 where
+  pub answer : Bytes
+  pub measures : TheOnly (MeasuresOn (meetingOutcome Either f t) f t) answer
+  pub coded : r ≡ bytesCode answer
 
 -- the finding's code, where the three tables meet
 pub record CheckedAs (f : Formula) (t : Trace) (a : Activation) (r : ℕ) : Type 0 where

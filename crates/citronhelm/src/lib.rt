@@ -3,6 +3,7 @@
 // length.
 ghost use mathlib.Core.List.{[]};
 ghost use mathlib.Core.Path.{_≡_};
+ghost use lib.ListN.{length};
 ghost use Rattle.text.specs.Result.{outcomeOf};
 ghost use Rattle.rule_file.specs.Rule.{parseRule};
 ghost use Rattle.take_file.specs.Take.{parseTake};
@@ -16,7 +17,7 @@ ghost use Rattle.step.specs.Step.{formAnswer, formLeft};
 ghost use Rattle.answer_code.specs.Code.{bytesCode, outcomeCode, refusalCode, signOf};
 ghost use Rattle.rule_and_take.specs.File.{OnFile, OnPair};
 ghost use Rattle.run_state.specs.State.{stateOf};
-ghost use Rattle.citronhelm.specs.Service.{CheckedAs, CycleAs, JudgedAs, MadeAs, PrintedAs, Turned, VerdictAs, WrittenAs};
+ghost use Rattle.citronhelm.specs.Service.{CheckedAs, CycleAs, JudgedAs, MadeAs, MeasuredAs, PrintedAs, Turned, VerdictAs, WrittenAs};
 use meeting::Wanted;
 use normal_form::sign::Sign;
 use tables::refusal::Outcome;
@@ -91,6 +92,23 @@ pub extern "C" fn citronhelm_normal(rule: &[u8], negated: u8, output: &mut [u8])
         Outcome::Accepted => {
             let sign = answer_code::sign_named(negated);
             answer_code::bytes_code(normal_file::write_form(read.formula, sign, output))
+        }
+    }
+}
+
+// How long that file is, exactly.
+#[no_mangle]
+pub extern "C" fn citronhelm_normal_length(rule: &[u8], negated: u8) -> u64
+    ensures answer { λ r. ⌜ OnFile 1 (parseRule (now (rule .entry))) (λ why. r ≡ refusalCode why)
+        (λ f. r ≡ length (normalText f (signOf negated))) ⌝ }
+{
+    let read = rule_file::rule::read_rule(rule);
+    let outcome = read.outcome;
+    match outcome {
+        Outcome::Refused(refusal) => answer_code::refusal_code(refusal),
+        Outcome::Accepted => {
+            let asked = answer_code::sign_named(negated);
+            normal_length::measure_form(read.formula, asked) as u64
         }
     }
 }
@@ -198,6 +216,23 @@ pub extern "C" fn citronhelm_make_sheet(rule: &[u8], take: &[u8], output: &mut [
             pair.formula,
             pair.trace,
             output,
+        )),
+    }
+}
+
+// How long that sheet is, exactly; 0 where there is none.
+#[no_mangle]
+pub extern "C" fn citronhelm_sheet_length(rule: &[u8], take: &[u8]) -> u64
+    ensures answer { λ r. ⌜ OnPair (parseRule (now (rule .entry))) (parseTake (now (take .entry))) (λ why. r ≡ refusalCode why)
+        (λ f t. MeasuredAs f t r) ⌝ }
+{
+    let pair = rule_and_take::read_pair(rule, take);
+    let outcome = pair.outcome;
+    match outcome {
+        Outcome::Refused(refusal) => answer_code::refusal_code(refusal),
+        Outcome::Accepted => answer_code::bytes_code(sheet_length::measure_met(
+            pair.formula,
+            pair.trace,
         )),
     }
 }

@@ -44,23 +44,28 @@ use Rattle.writing.proofs.Room.{room-enough, room-exact, room-short, refused-sh
 use Rattle.writing.proofs.Texts.{overlaid-none}
 use Rattle.sheet_length.specs.Answer.{Measured, Measured.sheet, Measured.none, MeasuresOn, Measures}
 
--- what length service and sheet maker say of the same tables
-data Both (f : Formula) (t : Trace) (n : ℕ) (before after : List ℕ) (answer : MakerAnswer) : Type 0 where
-  some-sheet : (a : Activation) → IsMade (normalForm f Plain) t a → n ≡ length (writtenSheet a) → answer ≡ answerOf (writtenAnswer (writtenSheet a) before)
-      → after ≡ overlaid (writtenSheet a) before → Both f t n before after answer
-  no-sheet : n ≡ 0 → answer ≡ None → after ≡ before → Both f t n before after answer
-
 pub sheet-some : (a : Activation) → 0 < length (writtenSheet a)
 unfolding writtenSheet
 sheet-some a = omega arith
 
--- an answer is refused where writing is
+-- an answer is refused where writing is, and `none` nowhere there
 turned : {why : Refusal} (b : Bytes) → answerOf b ≡ MakerRefused why → b ≡ BytesRefused why
 turned (Count m) q = clash (cc)
 turned (BytesRefused told) q = cc
 
+never-none : (b : Bytes) → answerOf b ≡ None → ⊥
+never-none (Count m) q = clash (cc)
+never-none (BytesRefused told) q = clash (cc)
+
 module _ (f : Formula) (t : Trace) (before after : List ℕ) (answer : MakerAnswer) where
-  both-on : (n : ℕ) (o : Outcome) → (o ≡ Accepted → FormulaInRange f) → MeasuresOn o f t (Count n) → MakesOn o f t before after answer → Both f t n before after answer
+  -- what length service and sheet maker say of the same tables: of one sheet, or both of none
+  pub data Both (n : ℕ) : Type 0 where
+    some-sheet : (a : Activation) → IsMade (normalForm f Plain) t a → n ≡ length (writtenSheet a) → answer ≡ answerOf (writtenAnswer (writtenSheet a) before)
+        → after ≡ overlaid (writtenSheet a) before → Both n
+    no-sheet : n ≡ 0 → answer ≡ None → after ≡ before → Both n
+
+  -- whatever checks come before, if what they accept is in range
+  pub both-on : (n : ℕ) (o : Outcome) → (o ≡ Accepted → FormulaInRange f) → MeasuresOn o f t (Count n) → MakesOn o f t before after answer → Both n
   both-on n (Refused why) fine m makes = clash (cc)
   both-on n Accepted fine (sheet s a made p) (sheet r b again u w) =
       let same : writtenSheet a ≡ writtenSheet b = made-unique (normalForm f Plain) t a b (form-normal f Plain (fine refl) .most-rows) made again in
@@ -70,59 +75,52 @@ module _ (f : Formula) (t : Trace) (before after : List ℕ) (answer : MakerAnsw
   both-on n Accepted fine (none s p) (sheet r b again u w) = absurd (s r)
   both-on n Accepted fine (none s p) (none r u w) = no-sheet (cc) u w
 
+  pub written-there : (n : ℕ) → Both n → 0 < n → n ≤ length before → answer ≡ Written n
+  written-there n (some-sheet a made e u w) some h = u ∙ ap answerOf (room-enough (writtenSheet a) before (omega (arith, e))) ∙ rw e refl
+  written-there n (no-sheet e u w) some h = absurd (omega arith)
+
+  filled-there : (n : ℕ) → Both n → 0 < n → length before ≡ n → (a : Activation) × IsMade (normalForm f Plain) t a × (after ≡ writtenSheet a)
+  filled-there n (some-sheet a made e u w) some h = (a, made, w ∙ room-exact (writtenSheet a) before (h ∙ e))
+  filled-there n (no-sheet e u w) some h = absurd (omega arith)
+
+  pub refused-there : (n : ℕ) → Both n → length before < n → (answer ≡ MakerRefused tooShort) × (after ≡ before)
+  refused-there n (some-sheet a made e u w) h =
+      let short : length before < length (writtenSheet a) = omega (arith, e) in
+      (u ∙ ap answerOf (room-short (writtenSheet a) before short), w ∙ sym (overlaid-none (writtenSheet a) before short))
+  refused-there n (no-sheet e u w) h = absurd (omega arith)
+
+  short-there : {why : Refusal} (n : ℕ) → Both n → answer ≡ MakerRefused why → length before < n
+  short-there n (some-sheet a made e u w) q =
+      let short = refused-short (writtenSheet a) before (turned (writtenAnswer (writtenSheet a) before) (sym u ∙ q)) .1 in omega (arith, e)
+  short-there n (no-sheet e u w) q = clash (cc)
+
+  pub none-there : (n : ℕ) → Both n → (n ≡ 0) ↔ (answer ≡ None)
+  none-there n (some-sheet a made e u w) = (λ z. absurd (omega (arith, e, sheet-some a)), λ q. absurd (never-none (writtenAnswer (writtenSheet a) before) (sym u ∙ q)))
+  none-there n (no-sheet e u w) = (λ z. u, λ q. e)
+
   module _ (n : ℕ) (measures : Measures f t (Count n)) (makes : Makes f t before after answer) where
-    both : Both f t n before after answer
+    both : Both n
     both = both-on n (pairOutcome Either f t) (pair-fine f t) measures makes
 
     -- WITH THAT MANY BYTES OR MORE the sheet maker writes a sheet of that length, where it is not 0;
     pub enough-written : 0 < n → n ≤ length before → answer ≡ Written n
-    enough-written some h = by both
-      where
-        by : Both f t n before after answer → answer ≡ Written n
-        by (some-sheet a made e u w) = u ∙ ap answerOf (room-enough (writtenSheet a) before (omega (arith, e))) ∙ rw e refl
-        by (no-sheet e u w) = absurd (omega arith)
+    enough-written = written-there n both
 
     -- with just that many it fills them with the sheet's file
     pub exact-filled : 0 < n → length before ≡ n → (a : Activation) × IsMade (normalForm f Plain) t a × (after ≡ writtenSheet a)
-    exact-filled some h = by both
-      where
-        by : Both f t n before after answer → (a : Activation) × IsMade (normalForm f Plain) t a × (after ≡ writtenSheet a)
-        by (some-sheet a made e u w) = (a, made, w ∙ room-exact (writtenSheet a) before (h ∙ e))
-        by (no-sheet e u w) = absurd (omega arith)
+    exact-filled = filled-there n both
 
     -- WITH FEWER it is refused with 10, and leaves the buffer alone
     pub fewer-refused : length before < n → (answer ≡ MakerRefused tooShort) × (after ≡ before)
-    fewer-refused h = by both
-      where
-        by : Both f t n before after answer → (answer ≡ MakerRefused tooShort) × (after ≡ before)
-        by (some-sheet a made e u w) =
-            let short : length before < length (writtenSheet a) = omega (arith, e) in
-            (u ∙ ap answerOf (room-short (writtenSheet a) before short), w ∙ sym (overlaid-none (writtenSheet a) before short))
-        by (no-sheet e u w) = absurd (omega arith)
+    fewer-refused = refused-there n both
 
     -- SO IT IS REFUSED WITH 10 EXACTLY WHERE IT IS LENT FEWER BYTES THAN THE LENGTH
     pub ten-exactly : RefusedWith 10 MakerRefused answer ↔ (length before < n)
-    ten-exactly = (λ x. by both (x .1), λ h. (tooShort, fewer-refused h .0, refl))
-      where
-        by : {why : Refusal} → Both f t n before after answer → answer ≡ MakerRefused why → length before < n
-        by (some-sheet a made e u w) q = let short = refused-short (writtenSheet a) before (turned (writtenAnswer (writtenSheet a) before) (sym u ∙ q)) .1 in omega (arith, e)
-        by (no-sheet e u w) q = clash (cc)
+    ten-exactly = (λ x. short-there n both (x .1), λ h. (tooShort, fewer-refused h .0, refl))
 
     -- AND THE LENGTH IS 0 EXACTLY WHERE THE ANSWER IS `none`
     pub none-exactly : (n ≡ 0) ↔ (answer ≡ None)
-    none-exactly = (by both, back both)
-      where
-        some : (b : Bytes) → answerOf b ≡ None → n ≡ 0
-        some (Count m) q = clash (cc)
-        some (BytesRefused told) q = clash (cc)
-
-        by : Both f t n before after answer → n ≡ 0 → answer ≡ None
-        by (some-sheet a made e u w) z = absurd (omega (arith, e, sheet-some a))
-        by (no-sheet e u w) z = u
-
-        back : Both f t n before after answer → answer ≡ None → n ≡ 0
-        back (some-sheet a made e u w) q = some (writtenAnswer (writtenSheet a) before) (sym u ∙ q)
-        back (no-sheet e u w) q = e
+    none-exactly = none-there n both
 
   -- REFUSALS ARE THE SHEET MAKER'S, whatever buffer it is lent
   pub refused-alike : (why : Refusal) → Measures f t (BytesRefused why) → Makes f t before after answer → (answer ≡ MakerRefused why) × (after ≡ before)
