@@ -63,12 +63,14 @@ extern "C" {
 #define CITRONHELM_STACK_READ_SHEET 13312u
 #define CITRONHELM_STACK_BOUND 2048u
 #define CITRONHELM_STACK_ROWS 4096u
+#define CITRONHELM_STACK_NORMAL_LENGTH 4096u
 #define CITRONHELM_STACK_NORMAL 7168u
 #define CITRONHELM_STACK_JUDGE 17408u
 #define CITRONHELM_STACK_JUDGE_LOOPED 17408u
 #define CITRONHELM_STACK_JUDGE_OPEN 17408u
 #define CITRONHELM_STACK_JUDGE_TEXT 15360u
 #define CITRONHELM_STACK_STEP 4096u
+#define CITRONHELM_STACK_SHEET_LENGTH 17408u
 #define CITRONHELM_STACK_MAKE_SHEET 18432u
 #define CITRONHELM_STACK_CHECK_SHEET 25600u
 #define CITRONHELM_STACK_RUN_BEGIN 5120u
@@ -93,8 +95,14 @@ uint64_t citronhelm_bound(const uint8_t *rule, size_t rule_length);
 uint64_t citronhelm_rows(const uint8_t *rule, size_t rule_length);
 
 /*
- * Writes a rule's normal form as a rule file, that of the negated rule where `negated` is not 0. Answers its length.
- * At most CITRONHELM_MOST_NORMAL bytes; for one rule at most citronhelm_bound.
+ * The exact length of a rule's normal form as a file, of that of the negated rule where `negated` is not 0. Nothing is written. For
+ * citronhelm_normal an output of that length does, and one that is a byte shorter is refused with 10.
+ */
+uint64_t citronhelm_normal_length(const uint8_t *rule, size_t rule_length, uint8_t negated);
+
+/*
+ * Writes a rule's normal form as a rule file, that of the negated rule where `negated` is not 0. Answers its length, which is that of
+ * citronhelm_normal_length. At most CITRONHELM_MOST_NORMAL bytes; for one rule at most citronhelm_bound.
  */
 uint64_t citronhelm_normal(const uint8_t *rule, size_t rule_length, uint8_t negated, uint8_t *output, size_t output_length);
 
@@ -155,9 +163,15 @@ static inline uint64_t citronhelm_step_in_place(
 }
 
 /*
+ * The exact length of the activator sheet of a rule and a take as a file, or 0 (`none`) where the rule does not hold or is not kept.
+ * Nothing is written. For citronhelm_make_sheet an output of that length does, and one that is a byte shorter is refused with 10.
+ */
+uint64_t citronhelm_sheet_length(const uint8_t *rule, size_t rule_length, const uint8_t *take, size_t take_length);
+
+/*
  * Writes the activator sheet of a rule and a take as a sheet file: a 1 where the row of the normal form is true at that cycle
  * (strongly, for an open take). Answers its length, or 0 (`none`; nothing is written, any output does) where the rule does not hold
- * or is not kept. At most CITRONHELM_MOST_SHEET bytes.
+ * or is not kept: that of citronhelm_sheet_length. At most CITRONHELM_MOST_SHEET bytes.
  */
 uint64_t citronhelm_make_sheet(
     const uint8_t *rule, size_t rule_length, const uint8_t *take, size_t take_length, uint8_t *output, size_t output_length);

@@ -31,6 +31,17 @@ watch_answers() {
         "$@" "$root/examples/run/rule.txt" <"$scratch/cycles" >"$scratch/answer" &&
         diff "$scratch/answer" "$scratch/watched"
 }
+
+# What a program that lends exact lengths prints must be the normal forms and sheets in examples/. A take in the place of a rule is refused.
+exact_answers() {
+    local expected files
+    for expected in "$root"/examples/*/expected-{normal,sheet}.txt; do
+        files=("${expected%/*}/rule.txt")
+        [ "${expected##*-}" = normal.txt ] || files+=("${expected%/*}/take.txt")
+        "$@" "${files[@]}" >"$scratch/answer" && diff "$scratch/answer" "$expected" || return 1
+    done
+    "$@" "$root/examples/refusal/take.txt" >"$scratch/answer" && printf 'refused=2\nfile=1\nline=3\n' | diff "$scratch/answer" -
+}
 root=$PWD
 printf '01\n%.0s' {1..257} >"$scratch/cycles"
 { printf 'open\n%.0s' {1..256} && echo refused=11; } >"$scratch/watched"
@@ -49,6 +60,8 @@ quietly "$scratch/step_in_place"
 quietly "${compile[@]}" examples/c/judge.c "$CITRONHELM_LIB/libcitronhelm.a" -o "$scratch/judge"
 quietly "${compile[@]}" examples/c/watch.c "$CITRONHELM_LIB/libcitronhelm.a" -o "$scratch/watch"
 quietly watch_answers "$scratch/watch"
+quietly "${compile[@]}" examples/c/exact.c "$CITRONHELM_LIB/libcitronhelm.a" -o "$scratch/exact"
+quietly exact_answers "$scratch/exact"
 judged=0
 for folder in examples/*/; do
     [ -e "${folder}rule.txt" ] && [ -e "${folder}take.txt" ] && [ -e "${folder}expected.txt" ] || continue
@@ -67,6 +80,7 @@ quietly ../tests/make_cases.py --check
 tail -n 1 "$scratch/said"
 quietly rust_answers ../examples/rule_a/rule.txt ../examples/rule_a/take.txt verdict=holds
 quietly watch_answers cargo run --quiet --offline --locked --release --example watch --
+quietly exact_answers cargo run --quiet --offline --locked --release --example exact --
 cargo run --quiet --offline --locked --release -p compare
-echo "rust/check.sh: C judged $judged examples, watched a run and stepped in place; the Rust crates' tests pass; library and second" \
-    "implementation agree"
+echo "rust/check.sh: C judged $judged examples, watched a run, lent exact lengths and stepped in place; the Rust crates' tests pass;" \
+    "library and second implementation agree"

@@ -100,8 +100,9 @@ a, request, looped, opened = 'rule-a', 'rule-next-pull', take('10 01', 0), take(
 for name in (a, 'rule-longest-lines'):
     as_unpadded('bound', [name])
     for service in ('normal', 'negated'):
+        as_unpadded(f'{service}_length', [name])
         as_unpadded(service, [name], length(service, name) + BEHIND)
-for service in ('judge', 'sheet'):
+for service in ('judge', 'sheet_length', 'sheet'):
     for pair in ([a, looped], [request, opened], [a, take('10 10', 1)], ['rule-until', take('10 01')], ['rule-next-one', looped]):
         as_unpadded(service, pair)
 for names in ([a, looped, 'sheet-a'], [a, looped, sheet('01 01 00 11 11')], [a, looped, sheet('01 00 11 11 11')], [a, opened, 'sheet-a']):

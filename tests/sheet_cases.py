@@ -1,9 +1,10 @@
-"""Sheets: `check_sheet` on a rule, a take and a sheet; `sheet` on a rule and a take; `all_sheets` on those with few rows and cycles. Where
-01 gives an answer it stands here by hand, and so do the answers that a case is there for, and all refusals."""
+"""Sheets: `check_sheet` on a rule, a take and a sheet; `sheet` and `sheet_length` on a rule and a take; `all_sheets` on those with few rows
+and cycles. Where 01 gives an answer it stands here by hand, and so do the answers that a case is there for, and all refusals."""
 import itertools
 
 import judge_cases as judge
 from judge_cases import one
+from normal_cases import edges
 from suite import ask, case, cases, file, refusal, rows_of, rule, sheet, sheet_text, tables, take, true_rows, value, verdict
 
 KINDS = ['true', 'false', 'sig', 'nsig', 'and', 'or', 'next', 'always', 'ever', 'weak', 'until', 'release', 'srelease']
@@ -308,6 +309,40 @@ for r, t, is_refused in judge.pairs + [(most, SILENT, False)]:
     if is_refused and '65536' not in r + t or not is_refused and ((r, t) in LARGE or rows_of(r) * len(tables[t][0]) <= 1600):
         case('sheet', r, t, ends=ask(f'judge {r} {t}') if is_refused else good if (r, t) == (a, FAIR) else '')
 assert all(f'sheet {r} {t}' in cases for r, t in LARGE)
+
+
+def sheet_length(rule_name, take_name, by_hand=None):
+    """The length of the sheet made: that of what `sheet` prints, and 0 where that is `none`."""
+    made = ask(f'sheet {rule_name} {take_name}')
+    length = 0 if made == 'none\n' else len(made)
+    assert by_hand in (None, length), (rule_name, take_name, length)
+    case('sheet_length', rule_name, take_name, ends=f'length={length}\n')
+
+
+# the lengths of sheets, and 0 where there is none
+for r, c, loop, by_hand in (
+        (a, '10 01', 0, 55), (a, '10 10', 1, 0), (a, '10', None, 0), (a, '10 01', None, 0), (until, '10 01', None, 43),
+        (until, '10 10', None, 0), (until, '10 00', None, 0), (until, '10', 0, 0), ('rule-weak', '10', 0, 40),
+        ('rule-weak', '10 10', None, 0), (again, '01 01 00', 2, 0), (again, '00 01 00', 1, 46), ('rule-always-true', '0', None, 0),
+        ('rule-always-true', '0', 0, 35), (following, '1', 0, 35), (following, '1', None, 0), (following, '0 1', None, 37),
+        ('rule-true-alone', '0', 0, 30), ('rule-true-alone', '0', None, 30)):
+    sheet_length(r, take(c, loop), by_hand)
+# where the counts and the rows' numbers get a digit more; at full size
+for rows, cycles in ((9, 9), (10, 10), (99, 99), (100, 100), (9, 100), (100, 9), (10, 99), (99, 10)):
+    t = one(cycles, 0, 1)
+    sheet_length(edges[rows], t, len(sheet_text(['0' * cycles] * rows)))
+    case('sheet', edges[rows], t)
+sheet_length(most, SILENT, 32671)
+for r, t in sorted(LARGE):
+    sheet_length(r, t)
+# refused as `sheet` is
+for r, t, *by_hand in (
+        ('rule-bad-word', FAIR, 2, 1, 7), ('rule-bad-format-2', FAIR, 3, 1, 1), ('rule-bad-0-rows', FAIR, 4, 1, 3),
+        ('rule-bad-signal-3', FAIR, 5, 1, 6), (LONGER, FAIR, 1, 1, 0), ('rule-missing', 'take-missing', 2, 1, 1),
+        ('rule-bad-word', 'take-bad-loop-2', 2, 1, 7), (a, 'take-bad-digit-2', 2, 2, 6), (a, 'take-bad-format-0', 3, 2, 1),
+        (a, 'take-bad-0-cycles', 4, 2, 3), (a, 'take-bad-loop-2', 6, 2, 4), (a, LONGER, 1, 2, 0), (a, 'take-missing', 2, 2, 1),
+        (following, 'take-bad-loop-2', 6, 2, 4), (following, FAIR, 7, 0, 0), (a, take('1', 0), 7, 0, 0)):
+    case('sheet_length', r, t, ends=refusal(*by_hand))
 
 
 def fits(text):

@@ -13,6 +13,7 @@ extern "C" {
     fn citronhelm_read_sheet(sheet: *const u8, sheet_length: usize) -> u64;
     fn citronhelm_bound(rule: *const u8, rule_length: usize) -> u64;
     fn citronhelm_rows(rule: *const u8, rule_length: usize) -> u64;
+    fn citronhelm_normal_length(rule: *const u8, rule_length: usize, negated: u8) -> u64;
     fn citronhelm_normal(
         rule: *const u8,
         rule_length: usize,
@@ -43,6 +44,7 @@ extern "C" {
         output: *mut u8,
         output_length: usize,
     ) -> u64;
+    fn citronhelm_sheet_length(rule: *const u8, rule_length: usize, take: *const u8, take_length: usize) -> u64;
     fn citronhelm_make_sheet(
         rule: *const u8,
         rule_length: usize,
@@ -84,6 +86,10 @@ pub fn rows(rule: &[u8]) -> u64 {
     unsafe { citronhelm_rows(rule.as_ptr(), rule.len()) }
 }
 
+pub fn normal_length(rule: &[u8], negated: bool) -> u64 {
+    unsafe { citronhelm_normal_length(rule.as_ptr(), rule.len(), negated.into()) }
+}
+
 pub fn normal(rule: &[u8], negated: bool, output: &mut [u8]) -> u64 {
     unsafe { citronhelm_normal(rule.as_ptr(), rule.len(), negated.into(), output.as_mut_ptr(), output.len()) }
 }
@@ -121,6 +127,10 @@ pub fn step(rule: &[u8], pendings: &[u8], activators: &[u8], signals: &[u8], out
             output.len(),
         )
     }
+}
+
+pub fn sheet_length(rule: &[u8], take: &[u8]) -> u64 {
+    unsafe { citronhelm_sheet_length(rule.as_ptr(), rule.len(), take.as_ptr(), take.len()) }
 }
 
 pub fn make_sheet(rule: &[u8], take: &[u8], output: &mut [u8]) -> u64 {

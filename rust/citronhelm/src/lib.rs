@@ -10,8 +10,9 @@
 //! Numbers in a file's values may have leading zeros, five digits in all at most, as in `cycles=00012`. Numbers in its keys (`r1=`,
 //! `c0=`, `z1=`) may not, and the digits of `c` and `z` lines are no numbers. What is written has no leading zeros.
 //!
-//! The services have no state and need no memory but the caller's; the two functions whose names end in `_vec` allocate. [`Monitors`]
-//! keeps what [`step`] needs from one cycle to the next, and [`Run`] judges a take while it is recorded.
+//! The services have no state and need no memory but the caller's; the two functions whose names end in `_vec` allocate, no more than they
+//! return. How long an output has to be is said beforehand by [`normal_length`] and [`sheet_length`]. [`Monitors`] keeps what [`step`]
+//! needs from one cycle to the next, and [`Run`] judges a take while it is recorded.
 //!
 //! The example below, which the other examples use as well, says: always, when signal 1 is on, sooner or later signal 2 is.
 //!
@@ -55,9 +56,9 @@ mod verdict;
 
 pub use finding::Finding;
 pub use judging::{judge, judge_looped, judge_open, judge_text, MOST_TEXT};
-pub use reading::{bound, normal, normal_vec, read_rule, read_sheet, read_take, rows, MOST_NORMAL};
+pub use reading::{bound, normal, normal_length, normal_vec, read_rule, read_sheet, read_take, rows, MOST_NORMAL};
 pub use refusal::{File, Reason, Refusal};
 pub use run::{run_begin, run_cycle, run_verdict, Run, RUN};
-pub use sheets::{check_sheet, make_sheet, make_sheet_vec, MOST_SHEET};
+pub use sheets::{check_sheet, make_sheet, make_sheet_vec, sheet_length, MOST_SHEET};
 pub use steps::{step, Monitors, Outputs, MOST_STEP};
 pub use verdict::Verdict;

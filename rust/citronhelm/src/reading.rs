@@ -65,8 +65,30 @@ pub fn rows(rule: &[u8]) -> Result<usize, Refusal> {
     counted(declarations::rows(rule))
 }
 
-/// Writes the normal form of a rule, or of the negated rule, as a rule file, and answers its length: at most [`bound`] of the rule,
-/// at most [`MOST_NORMAL`] for any.
+/// The exact length of the normal form of a rule, or of the negated rule, as a file. An output of that length does for [`normal`], and one
+/// that is a byte shorter does not.
+///
+/// ```
+/// use citronhelm::{normal, normal_length, Reason};
+///
+/// let rule = b"format=1\nsignals=2\nrows=6\n\
+///     r1=sig 1\nr2=not 1\nr3=sig 2\nr4=ever 3\nr5=or 2 4\nr6=always 5\n";
+/// let expected = b"format=1\nsignals=2\nrows=5\n\
+///     r1=nsig 1\nr2=sig 2\nr3=ever 2\nr4=or 1 3\nr5=always 4\n";
+/// let length = normal_length(rule, false)?;
+/// assert_eq!(length, 77);
+/// let mut output = vec![0; length];
+/// assert_eq!(normal(rule, false, &mut output[1..]).unwrap_err().reason, Reason::OutputTooShort);
+/// assert_eq!(normal(rule, false, &mut output), Ok(length));
+/// assert_eq!(output, expected);
+/// # Ok::<(), citronhelm::Refusal>(())
+/// ```
+pub fn normal_length(rule: &[u8], negated: bool) -> Result<usize, Refusal> {
+    counted(declarations::normal_length(rule, negated))
+}
+
+/// Writes the normal form of a rule, or of the negated rule, as a rule file, and answers its length, [`normal_length`]: at most [`bound`]
+/// of the rule, at most [`MOST_NORMAL`] for any.
 ///
 /// ```
 /// use citronhelm::{normal, Reason, MOST_NORMAL};
@@ -91,9 +113,8 @@ pub fn normal(rule: &[u8], negated: bool, output: &mut [u8]) -> Result<usize, Re
 /// assert_eq!(citronhelm::normal_vec(rule, true).unwrap(), b"format=1\nsignals=1\nrows=2\nr1=nsig 1\nr2=ever 1\n");
 /// ```
 pub fn normal_vec(rule: &[u8], negated: bool) -> Result<Vec<u8>, Refusal> {
-    let mut output = vec![0; MOST_NORMAL];
-    let length = normal(rule, negated, &mut output)?;
-    output.truncate(length);
+    let mut output = vec![0; normal_length(rule, negated)?];
+    normal(rule, negated, &mut output)?;
     Ok(output)
 }
 

@@ -7,9 +7,32 @@ use crate::refusal::{answered, counted, Refusal};
 /// The bytes that [`make_sheet`] needs at most.
 pub const MOST_SHEET: usize = 33567;
 
+/// The exact length of the activator sheet of a rule and a take as a file; 0 where there is none. An output of that length does for
+/// [`make_sheet`] in either case, and one that is a byte shorter does not.
+///
+/// ```
+/// use citronhelm::{make_sheet, sheet_length, Reason};
+///
+/// let rule = b"format=1\nsignals=2\nrows=6\n\
+///     r1=sig 1\nr2=not 1\nr3=sig 2\nr4=ever 3\nr5=or 2 4\nr6=always 5\n";
+/// let take = b"format=1\nsignals=2\ncycles=2\nloop=0\nc0=10\nc1=01\n";
+/// let length = sheet_length(rule, take)?;
+/// let mut output = vec![0; length];
+/// assert_eq!(make_sheet(rule, take, &mut output[1..]).unwrap_err().reason, Reason::OutputTooShort);
+/// assert_eq!(make_sheet(rule, take, &mut output), Ok(Some(length)));
+/// assert_eq!(output, b"format=1\nrows=5\ncycles=2\nz1=01\nz2=01\nz3=11\nz4=11\nz5=11\n");
+///
+/// let breaking = b"format=1\nsignals=2\ncycles=2\nloop=1\nc0=10\nc1=10\n";
+/// assert_eq!(sheet_length(rule, breaking), Ok(0));
+/// # Ok::<(), citronhelm::Refusal>(())
+/// ```
+pub fn sheet_length(rule: &[u8], take: &[u8]) -> Result<usize, Refusal> {
+    counted(declarations::sheet_length(rule, take))
+}
+
 /// Writes the activator sheet of a rule and a take as a sheet file, with a 1 where a row of the normal form is true at a cycle
-/// (strongly, for an open take), and answers its length, at most [`MOST_SHEET`]. Where the rule does not hold or is not kept the
-/// answer is `None`, and nothing is written, whatever the length of the output.
+/// (strongly, for an open take), and answers its length, [`sheet_length`]: at most [`MOST_SHEET`]. Where the rule does not hold or is
+/// not kept the answer is `None`, and nothing is written, whatever the length of the output.
 ///
 /// ```
 /// use citronhelm::make_sheet;
@@ -36,12 +59,9 @@ pub fn make_sheet(rule: &[u8], take: &[u8], output: &mut [u8]) -> Result<Option<
 /// assert_eq!(make_sheet_vec(rule, take).unwrap().unwrap(), sheet);
 /// ```
 pub fn make_sheet_vec(rule: &[u8], take: &[u8]) -> Result<Option<Vec<u8>>, Refusal> {
-    let mut output = vec![0; MOST_SHEET];
-    let length = make_sheet(rule, take, &mut output)?;
-    Ok(length.map(|length| {
-        output.truncate(length);
-        output
-    }))
+    let mut output = vec![0; sheet_length(rule, take)?];
+    let made = make_sheet(rule, take, &mut output)?;
+    Ok(made.map(|_| output))
 }
 
 /// What a check of a sheet for a rule and a take finds.

@@ -15,6 +15,8 @@ pub enum Service {
     Bound,
     /// The rows of a normal form.
     Rows,
+    /// The length of the normal form of a rule or of its negation.
+    NormalLength,
     /// Writes the normal form of a rule or of its negation.
     Normal,
     /// The verdict on a take of either kind.
@@ -27,6 +29,8 @@ pub enum Service {
     JudgeText,
     /// One cycle of the monitors.
     Step,
+    /// The length of a sheet, 0 if there is none.
+    SheetLength,
     /// Writes a sheet, if there is one.
     MakeSheet,
     /// The check of a sheet.
@@ -46,7 +50,7 @@ pub struct Call {
     pub service: Service,
     /// Its inputs, in the order of the service's parameters.
     pub inputs: Vec<Vec<u8>>,
-    /// Whether the negated rule is meant (`Normal` only).
+    /// Whether the negated rule is meant (`NormalLength` and `Normal` only).
     pub negated: bool,
     /// The output lent, as it is before the call; of `RunCycle` the run.
     pub output: Vec<u8>,
@@ -57,7 +61,7 @@ pub struct Call {
 pub enum Answer {
     /// A file or a cycle is accepted.
     Accepted,
-    /// A bound, a number of rows, or the length of what was written.
+    /// A bound, a number of rows, or the length of what was or is to be written.
     Number(usize),
     /// A verdict, by its word.
     Verdict(String),
@@ -82,18 +86,20 @@ pub struct Outcome {
 
 impl Service {
     /// All services.
-    pub const ALL: [Service; 16] = [
+    pub const ALL: [Service; 18] = [
         Service::ReadRule,
         Service::ReadTake,
         Service::ReadSheet,
         Service::Bound,
         Service::Rows,
+        Service::NormalLength,
         Service::Normal,
         Service::Judge,
         Service::JudgeLooped,
         Service::JudgeOpen,
         Service::JudgeText,
         Service::Step,
+        Service::SheetLength,
         Service::MakeSheet,
         Service::CheckSheet,
         Service::RunBegin,
@@ -105,9 +111,19 @@ impl Service {
     pub fn files(self) -> usize {
         match self {
             Service::RunCycle | Service::RunVerdict => 0,
-            Service::Judge | Service::JudgeLooped | Service::JudgeOpen | Service::JudgeText | Service::MakeSheet => 2,
+            Service::Judge | Service::JudgeLooped | Service::JudgeOpen | Service::JudgeText => 2,
+            Service::SheetLength | Service::MakeSheet => 2,
             Service::CheckSheet => 3,
             _ => 1,
+        }
+    }
+
+    /// The service that says how much this one writes, of those that have one.
+    pub fn length(self) -> Option<Service> {
+        match self {
+            Service::Normal => Some(Service::NormalLength),
+            Service::MakeSheet => Some(Service::SheetLength),
+            _ => None,
         }
     }
 
@@ -131,12 +147,14 @@ impl fmt::Display for Service {
             Service::ReadSheet => "sheet",
             Service::Bound => "bound",
             Service::Rows => "rows",
+            Service::NormalLength => "nlength",
             Service::Normal => "normal",
             Service::Judge => "judge",
             Service::JudgeLooped => "looped",
             Service::JudgeOpen => "open",
             Service::JudgeText => "text",
             Service::Step => "step",
+            Service::SheetLength => "slength",
             Service::MakeSheet => "make",
             Service::CheckSheet => "check",
             Service::RunBegin => "begin",

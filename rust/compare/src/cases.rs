@@ -76,7 +76,8 @@ const FINDINGS: &[(&[&str], Answer)] = &[
 
 /// Checks an implementation on every case; the number of cases.
 pub fn check(implementation: Implementation) -> Result<usize, String> {
-    let groups = [verdicts(), sheets(), limits(), written(), padded(), wrong_padding(), runs(), wrong_runs()];
+    let groups =
+        [verdicts(), sheets(), limits(), written(), lengths(), padded(), wrong_padding(), runs(), wrong_runs()];
     let cases: Vec<Case> = groups.into_iter().flatten().collect();
     for Case(call, answer, output) in &cases {
         let outcome = implementation(call);
@@ -137,6 +138,23 @@ fn written() -> Vec<Case> {
     ]
 }
 
+/// What is to be written, said beforehand; so much does, and a byte less is refused.
+fn lengths() -> Vec<Case> {
+    let (rule, take, breaking) = (rule(2, A), take("0", &["10", "01"]), take("1", &["10", "10"]));
+    let lent = |service: Service, bytes| service.writing(&[&rule[..], &take][..service.files()], vec![0; bytes]);
+    vec![
+        Case(Service::NormalLength.of(&[&rule]), Answer::Number(77), ""),
+        Case(Call { negated: true, ..Service::NormalLength.of(&[&rule]) }, Answer::Number(78), ""),
+        Case(lent(Service::Normal, 77), Answer::Number(77), NORMAL_A),
+        Case(lent(Service::Normal, 76), Answer::Refused(10, 0, 0), ""),
+        Case(Service::SheetLength.of(&[&rule, &take]), Answer::Number(55), ""),
+        Case(lent(Service::MakeSheet, 55), Answer::Number(55), SHEET_A),
+        Case(lent(Service::MakeSheet, 54), Answer::Refused(10, 0, 0), ""),
+        Case(Service::SheetLength.of(&[&rule, &breaking]), Answer::Number(0), ""),
+        Case(Service::MakeSheet.of(&[&rule, &breaking]), Answer::None, ""),
+    ]
+}
+
 /// Padded files are answered as others are, and what is written of them is not padded.
 fn padded() -> Vec<Case> {
     let [rule, take, sheet] = [PADDED_A, PADDED_TAKE, PADDED_SHEET].map(str::as_bytes);
@@ -144,9 +162,11 @@ fn padded() -> Vec<Case> {
     let step = Service::Step.writing(&[rule, b"00000", b"00111", b"10"], vec![0; 15]);
     vec![
         Case(Service::Bound.of(&[rule]), Answer::Number(293), ""),
+        Case(Service::NormalLength.of(&[rule]), Answer::Number(NORMAL_A.len()), ""),
         Case(Service::Normal.writing(&[rule], vec![0; 300]), Answer::Number(NORMAL_A.len()), NORMAL_A),
         Case(pair(Service::JudgeLooped), Answer::Verdict("holds".to_string()), ""),
         Case(pair(Service::JudgeText), Answer::Number(TEXT_A.len()), TEXT_A),
+        Case(pair(Service::SheetLength), Answer::Number(SHEET_A.len()), ""),
         Case(pair(Service::MakeSheet), Answer::Number(SHEET_A.len()), SHEET_A),
         Case(Service::CheckSheet.of(&[rule, take, sheet]), Answer::Finding("passes", 0, 0), ""),
         Case(step, Answer::Number(15), "000001101100101"),

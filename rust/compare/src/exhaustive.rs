@@ -1,21 +1,27 @@
 //! All small rules on all small takes, all sheets for the smallest, all short numbers, and all small runs.
 
-use crate::call::Service;
+use crate::call::{Call, Service};
 use crate::files::{rule, sheet, take, BINARY, UNARY};
 use crate::padding::places;
 use crate::runs;
 use crate::trials::Make;
 use std::ops::Range;
 
-/// Every verdict and made sheet for rules of up to three rows, on takes of up to three cycles with one signal and of up to two cycles
-/// with two; every check of every sheet for rules of up to two rows and takes of up to three cycles with one signal; numbers; small runs.
+/// Every normal form of rules of up to three rows, every verdict and made sheet for them on takes of up to three cycles with one signal and
+/// of up to two cycles with two, and the lengths of all these; every check of every sheet for rules of up to two rows and takes of up to
+/// three cycles with one signal; numbers; small runs.
 pub fn run(make: Make) -> Result<(), String> {
     for (signals, most_cycles) in [(1, 3), (2, 2)] {
         let takes = takes(signals, most_cycles);
         for rows in rules(signals, 3) {
             let rule = rule(signals, &rows);
+            for negated in [false, true] {
+                make(&Call { negated, ..Service::NormalLength.of(&[&rule]) })?;
+                make(&Call { negated, ..Service::Normal.writing(&[&rule], vec![b'#'; 128]) })?;
+            }
             for (_, take) in &takes {
                 make(&Service::Judge.of(&[&rule, take]))?;
+                make(&Service::SheetLength.of(&[&rule, take]))?;
                 make(&Service::MakeSheet.writing(&[&rule, take], vec![b'#'; 64]))?;
             }
         }

@@ -13,6 +13,7 @@ macro_rules! ask {
             Service::ReadSheet => answer($services::read_sheet(input(0)), accepted),
             Service::Bound => answer($services::bound(input(0)), Answer::Number),
             Service::Rows => answer($services::rows(input(0)), Answer::Number),
+            Service::NormalLength => answer($services::normal_length(input(0), negated), Answer::Number),
             Service::Normal => answer($services::normal(input(0), negated, &mut output), Answer::Number),
             Service::Judge => answer($services::judge(input(0), input(1)), verdict),
             Service::JudgeLooped => answer($services::judge_looped(input(0), input(1)), verdict),
@@ -21,6 +22,7 @@ macro_rules! ask {
             Service::Step => {
                 answer($services::step(input(0), input(1), input(2), input(3), &mut output), Answer::Number)
             }
+            Service::SheetLength => answer($services::sheet_length(input(0), input(1)), Answer::Number),
             Service::MakeSheet => answer($services::make_sheet(input(0), input(1), &mut output), made),
             Service::CheckSheet => answer($services::check_sheet(input(0), input(1), input(2)), Answer::from),
             Service::RunBegin => answer($services::run_begin(input(0), &mut output), Answer::Number),

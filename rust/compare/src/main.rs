@@ -4,8 +4,9 @@
 //!     compare [--seed N] [--runs N] [--programs FOLDER]
 //!
 //! Every call is made by both, those of `judge` by the bit-parallel judge as well; answer, inputs and the whole output must be the
-//! same. At the first difference the inputs are printed, and the program fails. It also fails where a service never gave one of
-//! its possible answers, or never showed what it does with a padded number: then the calls did not try everything.
+//! same. Normal forms and sheets must be as long as the library says beforehand, and refused with 10 exactly where less is lent. At the
+//! first difference the inputs are printed, and the program fails. It also fails where a service never gave one of its possible
+//! answers, or never showed what it does with a padded number: then the calls did not try everything.
 //!
 //! With `--programs` it runs the programs in the folder on the files of the random calls instead, and holds what they print to the second
 //! implementation.
@@ -13,7 +14,8 @@
 #![forbid(unsafe_code)]
 
 use compare::{
-    all_small, by_proved, by_second, by_words, hold_programs, papers_cases, random_calls, same, Call, Service, Tally,
+    all_small, by_proved, by_second, by_words, hold_programs, hold_to_length, papers_cases, random_calls, same, Call,
+    Service, Tally,
 };
 use std::path::PathBuf;
 use std::process::ExitCode;
@@ -52,7 +54,9 @@ fn compare(options: &Options) -> Result<Tally, String> {
     papers_cases(by_second).map_err(|wrong| format!("the second implementation is {wrong}"))?;
     let mut tally = Tally::default();
     let mut make = |call: &Call| {
-        tally.count(call.service, &same(call, by_proved, by_second)?);
+        let outcome = same(call, by_proved, by_second)?;
+        hold_to_length(call, &outcome.answer, by_proved)?;
+        tally.count(call.service, &outcome);
         if call.service == Service::Judge {
             same(call, by_proved, by_words)?;
         }

@@ -54,13 +54,14 @@ fn possible(service: Service) -> Vec<Kind> {
         Service::ReadRule => (&["accepted"], &[RULE], &[]),
         Service::ReadTake => (&["accepted"], &[TAKE], &[]),
         Service::ReadSheet => (&["accepted"], &[SHEET], &[]),
-        Service::Bound | Service::Rows => (&["number"], &[RULE], &[]),
+        Service::Bound | Service::Rows | Service::NormalLength => (&["number"], &[RULE], &[]),
         Service::Normal => (&["written"], &[RULE], &[10]),
         Service::Judge => (VERDICTS, &[RULE, TAKE], &[7]),
         Service::JudgeLooped => (&["holds", "breaks"], &[RULE, TAKE], &[7, 8]),
         Service::JudgeOpen => (&["kept", "broken", "open"], &[RULE, TAKE], &[7, 8]),
         Service::JudgeText => (VERDICTS, &[RULE, TAKE], &[7, 10]),
         Service::Step => (&["written"], &[RULE], &[2, 7, 9, 10]),
+        Service::SheetLength => (&["number", "none"], &[RULE, TAKE], &[7]),
         Service::MakeSheet => (&["none", "written"], &[RULE, TAKE], &[7, 10]),
         Service::CheckSheet => (FINDINGS, &[RULE, TAKE, SHEET], &[7, 9]),
         Service::RunBegin => (&["written"], &[RULE], &[10]),
@@ -73,16 +74,19 @@ fn possible(service: Service) -> Vec<Kind> {
     said.chain(of_files).chain(of_calls).collect()
 }
 
-/// The kind of an answer. What `judge` prints counts as what it says; failures behind the take's last cycle, in a later round of the
-/// loop, count apart, and so do calls for the verdict on a run that has no cycle yet.
+/// The kind of an answer. What `judge` prints counts as what it says, and a sheet's length of 0 as `none`; failures behind the take's last
+/// cycle, in a later round of the loop, count apart, and so do calls for the verdict on a run that has no cycle yet.
 fn kind(service: Service, outcome: &Outcome) -> Kind {
     let word = match &outcome.answer {
         Answer::Refused(4, 0, _) if service == Service::RunVerdict && is_run(&outcome.inputs[0]) => "no cycle yet",
         Answer::Refused(number, file, _) => return Kind::Refused(*number, *file),
         Answer::Number(length) if service == Service::JudgeText => return kind_of_text(&outcome.output[..*length]),
         Answer::Accepted => "accepted",
-        Answer::Number(_) if matches!(service, Service::Bound | Service::Rows) => "number",
-        Answer::Number(_) => "written",
+        Answer::Number(0) if service == Service::SheetLength => "none",
+        Answer::Number(_) => match service {
+            Service::Bound | Service::Rows | Service::NormalLength | Service::SheetLength => "number",
+            _ => "written",
+        },
         Answer::Verdict(word) => word,
         Answer::Finding("failed", _, cycle) if *cycle >= cycles(&outcome.inputs[1]) => "failed later",
         Answer::Finding(word, _, _) => word,
@@ -240,6 +244,14 @@ mod tests {
         tally.count(Service::ReadTake, &Outcome { inputs: vec![take], ..outcome(Answer::Accepted) });
         assert!(!tally.faults().contains(&missing));
         assert_eq!((tally.calls(), tally.padded_calls()), (1, 1));
+    }
+
+    #[test]
+    fn a_length_of_0_is_none() {
+        let of = |service, length| kind(service, &outcome(Answer::Number(length)));
+        assert_eq!(of(Service::SheetLength, 0), Kind::Said("none".to_string()));
+        assert_eq!(of(Service::SheetLength, 55), Kind::Said("number".to_string()));
+        assert_eq!(of(Service::NormalLength, 77), Kind::Said("number".to_string()));
     }
 
     #[test]

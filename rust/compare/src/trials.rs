@@ -93,12 +93,15 @@ fn on_files(random: &mut Random, files: &Files, make: Make) -> Result<(), String
     make(&Service::ReadTake.of(&[take]))?;
     make(&Service::ReadSheet.of(&[sheet]))?;
     for negated in [false, true] {
-        with_outputs(random, Call { negated, ..Service::Normal.of(&[rule]) }, make)?;
+        let of = |service: Service| Call { negated, ..service.of(&[rule]) };
+        make(&of(Service::NormalLength))?;
+        with_outputs(random, of(Service::Normal), make)?;
     }
     for service in [Service::Judge, Service::JudgeLooped, Service::JudgeOpen] {
         make(&service.of(&[rule, take]))?;
     }
     with_outputs(random, Service::JudgeText.of(&[rule, take]), make)?;
+    make(&Service::SheetLength.of(&[rule, take]))?;
     with_outputs(random, Service::MakeSheet.of(&[rule, take]), make)?;
     make(&Service::CheckSheet.of(&[rule, take, sheet]))
 }

@@ -1,8 +1,8 @@
 //! The papers' cases, and the order of refusals.
 
 use crate::{
-    bound, check_sheet, judge, judge_looped, judge_open, judge_text, make_sheet, normal, read_rule, read_sheet,
-    read_take, rows, step, Finding, Refusal, Verdict,
+    bound, check_sheet, judge, judge_looped, judge_open, judge_text, make_sheet, normal, normal_length, read_rule,
+    read_sheet, read_take, rows, sheet_length, step, Finding, Refusal, Verdict,
 };
 
 /// Always, when signal 1, sooner or later signal 2.
@@ -79,6 +79,24 @@ fn normal_form_of_rule_a_is_written() {
     assert!(output[NORMAL_A.len()..].iter().all(|byte| *byte == b'#'));
     assert_eq!(bound(rule(2, &A).as_bytes()), Ok(293));
     assert_eq!(rows(rule(2, &A).as_bytes()), Ok(5));
+}
+
+/// What is to be written, said beforehand; so much does, and a byte less is refused.
+#[test]
+fn lengths_of_rule_a() {
+    let rule = rule(2, &A);
+    for (negated, length) in [(false, 77), (true, 78)] {
+        assert_eq!(normal_length(rule.as_bytes(), negated), Ok(length));
+        assert_eq!(normal(rule.as_bytes(), negated, &mut vec![0; length]), Ok(length));
+        assert_eq!(normal(rule.as_bytes(), negated, &mut vec![0; length - 1]), refused(10, 0, 0));
+    }
+    let [fair, breaking, open] = [("0", ["10", "01"]), ("1", ["10", "10"]), ("none", ["10", "01"])]
+        .map(|(start, cycles)| take(start, &cycles).into_bytes());
+    assert_eq!(sheet_length(rule.as_bytes(), &fair), Ok(55));
+    assert_eq!(make_sheet(rule.as_bytes(), &fair, &mut [0; 55]), Ok(Some(55)));
+    assert_eq!(make_sheet(rule.as_bytes(), &fair, &mut [0; 54]), refused(10, 0, 0));
+    assert_eq!(sheet_length(rule.as_bytes(), &breaking), Ok(0));
+    assert_eq!(sheet_length(rule.as_bytes(), &open), Ok(0));
 }
 
 #[test]
@@ -171,6 +189,10 @@ fn order_of_refusals() {
     assert_eq!(normal(b"", false, &mut []), refused(2, 1, 1));
     assert_eq!(normal(good.as_bytes(), false, &mut []), refused(10, 0, 0));
     assert_eq!(make_sheet(good.as_bytes(), other.as_bytes(), &mut []), refused(7, 0, 0));
+    assert_eq!(normal_length(b"", true), refused(2, 1, 1));
+    assert_eq!(sheet_length(b"", &long), refused(2, 1, 1));
+    assert_eq!(sheet_length(good.as_bytes(), &long), refused(1, 2, 0));
+    assert_eq!(sheet_length(good.as_bytes(), other.as_bytes()), refused(7, 0, 0));
 }
 
 #[test]

@@ -2,8 +2,8 @@
 
 use crate::cases::{refused, rule, sheet, take, A, NORMAL_A};
 use crate::{
-    check_sheet, judge, judge_looped, judge_text, make_sheet, normal, read_rule, read_sheet, read_take, run_begin,
-    run_cycle, run_verdict, step, Finding, Refusal, Verdict,
+    check_sheet, judge, judge_looped, judge_text, make_sheet, normal, normal_length, read_rule, read_sheet, read_take,
+    run_begin, run_cycle, run_verdict, sheet_length, step, Finding, Refusal, Verdict,
 };
 
 type Reader = fn(&[u8]) -> Result<(), Refusal>;
@@ -175,6 +175,7 @@ fn what_is_written_is_not_padded() {
 fn padded_files_are_answered_like_others() {
     let (rule, take) = (PADDED_RULE.as_bytes(), PADDED_TAKE.as_bytes());
     assert_eq!(check_sheet(rule, take, PADDED_SHEET.as_bytes()), Ok(Finding::Passes));
+    assert_eq!((normal_length(rule, false), sheet_length(rule, take)), (Ok(NORMAL_A.len()), Ok(plain_sheet().len())));
     let mut output = [0; 15];
     assert_eq!(step(rule, b"00000", b"00111", b"10", &mut output), Ok(15));
     assert_eq!(&output, b"000001101100101");

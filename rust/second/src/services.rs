@@ -35,6 +35,11 @@ pub fn rows(rule: &[u8]) -> Result<usize, Refusal> {
     Ok(normal_form(&Rule::read(rule)?, false).rows.len())
 }
 
+/// The length of the normal form of a rule or of its negation.
+pub fn normal_length(rule: &[u8], negated: bool) -> Result<usize, Refusal> {
+    Ok(normal_form(&Rule::read(rule)?, negated).to_string().len())
+}
+
 /// Writes the normal form of a rule or of its negation; its length.
 pub fn normal(rule: &[u8], negated: bool, output: &mut [u8]) -> Result<usize, Refusal> {
     write(normal_form(&Rule::read(rule)?, negated).to_string().as_bytes(), output)
@@ -91,6 +96,12 @@ pub fn step(
     let pending = given.iter().map(|row| row.pending);
     let digits: Vec<u8> = failed.chain(accept).chain(pending).map(|bit| if bit { b'1' } else { b'0' }).collect();
     write(&digits, output)
+}
+
+/// The length of the sheet of a rule and a take; 0 if there is none.
+pub fn sheet_length(rule: &[u8], take: &[u8]) -> Result<usize, Refusal> {
+    let (rule, take) = read_pair(rule, take)?;
+    Ok(made(&rule, &take).map_or(0, |sheet| sheet.len()))
 }
 
 /// Writes the sheet of a rule and a take; its length, or none.

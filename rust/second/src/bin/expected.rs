@@ -4,8 +4,8 @@
 #![forbid(unsafe_code)]
 
 use second::{
-    bound, check_sheet, judge_text, make_sheet, normal, read_rule, read_sheet, read_take, run_begin, run_cycle,
-    run_rule, run_verdict, step, Finding, Refusal,
+    bound, check_sheet, judge_text, make_sheet, normal, normal_length, read_rule, read_sheet, read_take, run_begin,
+    run_cycle, run_rule, run_verdict, sheet_length, step, Finding, Refusal,
 };
 
 /// The longest text of `judge` or `sheet`: a sheet of 128 rows and 256 cycles.
@@ -28,17 +28,21 @@ fn main() {
 /// What is printed of an answer; a refusal where it is nothing else.
 fn answer(words: &[&str]) -> Result<String, Refusal> {
     let ok = |(): ()| "ok\n".to_string();
+    let length = |bytes: usize| format!("length={bytes}\n");
     match *words {
         ["read_rule", rule] => read_rule(&load(rule)).map(ok),
         ["read_take", take] => read_take(&load(take)).map(ok),
         ["read_sheet", sheet] => read_sheet(&load(sheet)).map(ok),
         ["bound", rule] => bound(&load(rule)).map(|bytes| format!("bound={bytes}\n")),
+        ["normal_length", rule] => normal_length(&load(rule), false).map(length),
+        ["negated_length", rule] => normal_length(&load(rule), true).map(length),
         ["normal", rule, size] => lent(rule, size, |rule, output| normal(rule, false, output)),
         ["negated", rule, size] => lent(rule, size, |rule, output| normal(rule, true, output)),
         ["step", rule, pendings, activators, signals, size] => lent(rule, size, |rule, output| {
             step(rule, pendings.as_bytes(), activators.as_bytes(), signals.as_bytes(), output)
         }),
         ["judge", rule, take] => Ok(judged(rule, take)),
+        ["sheet_length", rule, take] => sheet_length(&load(rule), &load(take)).map(length),
         ["sheet", rule, take] => {
             written(|output| make_sheet(&load(rule), &load(take), output)).map(|sheet| sheet.unwrap_or("none\n".into()))
         }
