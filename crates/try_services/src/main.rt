@@ -4,6 +4,7 @@
 mod all_sheets;
 mod case;
 mod changes;
+mod lengths;
 mod reading;
 mod rules;
 mod runs;
@@ -17,6 +18,9 @@ fn report(case: &[u8]) {
         return;
     }
     if rules::tried(case) {
+        return;
+    }
+    if lengths::tried(case) {
         return;
     }
     if runs::tried(case) {
