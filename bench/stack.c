@@ -43,10 +43,11 @@ static const struct {
     void (*function)(void);
     int inputs, writes;
 } FUNCTIONS[] = {
-    FUNCTION(read_rule, 1, 0),   FUNCTION(read_take, 1, 0),   FUNCTION(read_sheet, 1, 0), FUNCTION(bound, 1, 0),
-    FUNCTION(rows, 1, 0),        FUNCTION(normal, 1, 1),      FUNCTION(judge, 2, 0),      FUNCTION(judge_looped, 2, 0),
-    FUNCTION(judge_open, 2, 0),  FUNCTION(judge_text, 2, 1),  FUNCTION(step, 4, 1),       FUNCTION(make_sheet, 2, 1),
-    FUNCTION(check_sheet, 3, 0), FUNCTION(run_begin, 1, 1),   FUNCTION(run_cycle, 2, 0),  FUNCTION(run_verdict, 1, 0),
+    FUNCTION(read_rule, 1, 0),    FUNCTION(read_take, 1, 0),    FUNCTION(read_sheet, 1, 0),    FUNCTION(bound, 1, 0),
+    FUNCTION(rows, 1, 0),         FUNCTION(normal, 1, 1),       FUNCTION(normal_length, 1, 0), FUNCTION(judge, 2, 0),
+    FUNCTION(judge_looped, 2, 0), FUNCTION(judge_open, 2, 0),   FUNCTION(judge_text, 2, 1),    FUNCTION(step, 4, 1),
+    FUNCTION(make_sheet, 2, 1),   FUNCTION(sheet_length, 2, 0), FUNCTION(check_sheet, 3, 0),   FUNCTION(run_begin, 1, 1),
+    FUNCTION(run_cycle, 2, 0),    FUNCTION(run_verdict, 1, 0),
 };
 
 static uint8_t stack[STACK_BYTES] __attribute__((aligned(4096)));
@@ -77,7 +78,7 @@ int main(int count, char **words)
             passed[next++] = fread(input[i], 1, MOST_BYTES, file);
             fclose(file);
         }
-        if (strcmp(words[1], "normal") == 0)
+        if (strncmp(words[1], "normal", 6) == 0)
             passed[next++] = 0; /* not the negated rule's */
         if (FUNCTIONS[which].writes) {
             passed[next++] = (uintptr_t)output;

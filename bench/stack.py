@@ -155,7 +155,7 @@ def calls(folder):
     sheets = [*damaged(sheet), turned(sheet, 1, 256), *(turned(sheet, line, place) for line in (1, 2, 60, 125) for place in (1, 2, 128, 255)),
               re.sub(rb'[01](?=[01]*\n)', b'1', sheet), sheet.replace(cycles, b'cycles=255')]
     for one in rules:
-        for name in ('read_rule', 'bound', 'rows'):
+        for name in ('read_rule', 'bound', 'rows', 'normal_length'):
             yield name, [one], [0]
         yield 'normal', [one], [0, 2845]
         yield 'run_begin', [one], [0, 1219, 1220, 2000]
@@ -164,7 +164,7 @@ def calls(folder):
                                               (rows, rows, b'0' * 31), (rows, rows[1:], b'0' * 32), (b'2' + rows[1:], rows, b'0' * 32)):
             yield 'step', [one, pendings, activators, signals], [0, 384]
         for two in takes:
-            for name in ('judge', 'judge_looped', 'judge_open'):
+            for name in ('judge', 'judge_looped', 'judge_open', 'sheet_length'):
                 yield name, [one, two], [0]
             yield 'judge_text', [one, two], [0, 64]
             yield 'make_sheet', [one, two], [0, 33567]

@@ -23,12 +23,7 @@
 typedef uint64_t function(
     uintptr_t, uintptr_t, uintptr_t, uintptr_t, uintptr_t, uintptr_t, uintptr_t, uintptr_t, uintptr_t, uintptr_t);
 
-/* The functions that read files, with the number of their inputs. */
-#define FUNCTIONS(EACH)                                                                                                   \
-    EACH(read_rule, 1) EACH(read_take, 1) EACH(read_sheet, 1) EACH(bound, 1) EACH(rows, 1) EACH(normal, 1) EACH(judge, 2) \
-    EACH(judge_looped, 2) EACH(judge_open, 2) EACH(judge_text, 2) EACH(step, 4) EACH(make_sheet, 2) EACH(check_sheet, 3)  \
-    EACH(run_begin, 1)
-
+/* FUNCTIONS(EACH) is given by versions.py: EACH(name, inputs) for the functions that both versions have, with the number of inputs. */
 #define DECLARED(name, inputs) uint64_t other_citronhelm_##name(void);
 FUNCTIONS(DECLARED)
 
@@ -58,7 +53,10 @@ static int by_size(const void *a, const void *b)
     return (x > y) - (x < y);
 }
 
-/* The words of a call: each file's bytes and length; of `normal` that it is not the negated rule's; the output and its length. */
+/*
+ * The words of a call: each file's bytes and length; of `normal` and `normal_length` that it is not the negated rule's; the output and its
+ * length.
+ */
 static int read_words(uintptr_t *words, char **names, int inputs, int negatable, const char *length)
 {
     for (int i = 0; i < inputs; i++) {
@@ -86,7 +84,7 @@ int main(int count, char **words)
         return 2;
     }
     uintptr_t passed[WORDS] = {0};
-    if (!read_words(passed, words + 4, TABLE[which].inputs, strcmp(words[1], "normal") == 0, words[2]))
+    if (!read_words(passed, words + 4, TABLE[which].inputs, strncmp(words[1], "normal", 6) == 0, words[2]))
         return 2;
     int calls = atoi(words[3]);
     for (int version = 0; version < 2; version++)

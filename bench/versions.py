@@ -5,7 +5,8 @@
     bench/versions.py OTHER       OTHER/libcitronhelm.a is the other version; needs valgrind
 
 Instructions: those of one call, counted by callgrind inside the function. Times: both versions take turns in one process (versions.c);
-the best round and the median one. Where a version refuses the files it is not measured."""
+the best round and the median one. Where a version refuses the files it is not measured. A function that the other version does not have
+is left out."""
 import os
 import re
 import subprocess
@@ -25,12 +26,14 @@ CALLS = [  # function, inputs, bytes lent
     ('bound', ['rule.txt'], 0),
     ('rows', ['rule.txt'], 0),
     ('normal', ['rule.txt'], 2845),
+    ('normal_length', ['rule.txt'], 0),
     ('judge', ['rule.txt', 'take.txt'], 0),
     ('judge_looped', ['rule.txt', 'take.txt'], 0),
     ('judge_open', ['rule.txt', 'open.txt'], 0),
     ('judge_text', ['rule.txt', 'take.txt'], 64),
     ('step', ['rule.txt', 'pendings', 'activators', 'signals'], 384),
     ('make_sheet', ['rule.txt', 'take.txt'], 33567),
+    ('sheet_length', ['rule.txt', 'take.txt'], 0),
     ('check_sheet', ['rule.txt', 'take.txt', 'sheet.txt'], 0),
     ('run_begin', ['rule.txt'], 1220),
 ]
@@ -56,10 +59,19 @@ def renamed(other, folder):
     return copy
 
 
-def built(other, folder):
+def common(other):
+    """The calls of functions that the other version has too."""
+    there = {line.split()[-1] for line in said('nm', '--defined-only', other).stdout.splitlines() if ' T ' in line}
+    return [call for call in CALLS if f'citronhelm_{call[0]}' in there]
+
+
+def built(other, calls, folder):
     program = os.path.join(folder, 'versions')
+    functions = {function: len(inputs) for function, inputs, _ in calls}
+    listed = ' '.join(f'EACH({function}, {inputs})' for function, inputs in functions.items())
     said('cc', '-std=c99', '-pedantic', '-Wall', '-Wextra', '-Werror', '-O2', '-I', os.path.join(ROOT, 'include'),
-         os.path.join(ROOT, 'bench/versions.c'), LIBRARY, renamed(other, folder), '-Wl,-z,now', '-o', program)
+         f'-DFUNCTIONS(EACH)={listed}', os.path.join(ROOT, 'bench/versions.c'), LIBRARY, renamed(other, folder), '-Wl,-z,now',
+         '-o', program)
     return program
 
 
@@ -93,8 +105,10 @@ def main():
     print('|---|---|---|---|---|---|---|')
     with tempfile.TemporaryDirectory() as folder:
         write_inputs(folder)
-        program = built(os.path.join(sys.argv[1], 'libcitronhelm.a'), folder)
-        for function, inputs, lent in CALLS:
+        other = os.path.join(sys.argv[1], 'libcitronhelm.a')
+        calls = common(other)
+        program = built(other, calls, folder)
+        for function, inputs, lent in calls:
             cells = measured(program, folder, function, inputs, lent)
             print('|', ' | '.join([f'`{function}`, {", ".join(name.removesuffix(".txt") for name in inputs)}', *cells]), '|', flush=True)
 

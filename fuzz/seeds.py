@@ -83,6 +83,24 @@ def limits():
             yield [rule.encode(), take.encode(), sheet.encode()]
 
 
+def many_rows(count, signals):
+    """A rule with so many rows in its normal form, both signs of most rows being reached; it always holds and is always kept."""
+    chain = (count - 1) // 2
+    rows = [f"sig {signals}", *(f"{'and' if n % 2 else 'or'} {n} 1" for n in range(1, chain))]
+    rows += [f"not {chain}", f"or {chain} {chain + 1}", *([] if count % 2 else [f"and {chain + 2} {chain + 2}"])]
+    lines = "".join(f"r{n}={row}\n" for n, row in enumerate(rows, 1))
+    return f"format=1\nsignals={signals}\nrows={len(rows)}\n{lines}".encode()
+
+
+def digit_more():
+    """Rules and takes just below the counts whose numbers have a digit more, and at them, for the lengths; and with the most rows."""
+    for rows, signals, cycles in ((9, 9, 9), (10, 10, 10), (99, 9, 99), (100, 10, 100), (125, 32, 1)):
+        lines = "".join(f"c{n}={('10' * signals)[:signals]}\n" for n in range(cycles))
+        for loop in ("none", cycles - 1):
+            take = f"format=1\nsignals={signals}\ncycles={cycles}\nloop={loop}\n{lines}"
+            yield [many_rows(rows, signals), take.encode()]
+
+
 def changes(*pairs):
     """Changes of a run's bytes: places, and the bits to turn there; a place behind the run gives its length (src/runs.rs)."""
     return b"".join(place.to_bytes(2, "big") + bytes([bits]) for place, bits in pairs)
@@ -112,13 +130,14 @@ def runs(rule, rules):
 def seeds():
     rules, takes, sheets = of_kind("rule"), of_kind("take"), of_kind("sheet")
     rule, take, sheet = [(DATA / name).read_bytes() for name in ("rule-a", "take-a", "sheet-a")]
+    rules += [pair[0] for pair in digit_more()]
     for kind, files, file in (("rule", rules, rule), ("take", takes, take), ("sheet", sheets, sheet)):
         long = [file.ljust(length, b"\n") for length in (65_536, 65_537)]
         yield kind, [*files, *long, *map(padded, small(files)), *zeros(file)]
     rules, takes, sheets = small(rules), small(takes), small(sheets)
     pairs = [*examples("rule.txt", "take.txt"), *([other, take] for other in rules), *([rule, other] for other in takes)]
-    pairs += [*long_pairs(), *(triple[:2] for triple in limits()), *all_padded(examples("rule.txt", "take.txt"))]
-    yield "judge", [join(*pair) for pair in pairs]
+    pairs += [*long_pairs(), *digit_more(), *(triple[:2] for triple in limits()), *all_padded(examples("rule.txt", "take.txt"))]
+    yield "judge", [join(*pair) for pair in [*pairs, [rule, take.ljust(65_537, b"\n")]]]
     whole = [*examples("rule.txt", "take.txt", "sheet.txt"), [rule, take, sheet]]
     triples = [[*pair, sheet] for pair in pairs] + [[rule, take, other] for other in sheets] + list(limits())
     yield "check", [join(*triple) for triple in [*whole, *triples, *all_padded(whole)]]

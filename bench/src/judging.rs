@@ -1,7 +1,7 @@
 // Judging.
 use crate::reading::Refusal;
-use crate::rule::{normal, read_rule, Row, Rule};
-use crate::take::{go_together, read_take, Take};
+use crate::rule::{normal, Row, Rule};
+use crate::take::{read_pair, Take};
 use crate::truth::truths;
 
 #[derive(Clone, Copy, Debug, PartialEq)]
@@ -42,13 +42,6 @@ pub fn judge(rule: &Rule, take: &Take) -> (usize, Verdict) {
         (None, false) => Verdict::Open,
     };
     (plain.len(), verdict)
-}
-
-fn read_pair(rule: &[u8], take: &[u8]) -> Result<(Rule, Take), Refusal> {
-    let rule = read_rule(rule).map_err(|fault| fault.of(1))?;
-    let take = read_take(take).map_err(|fault| fault.of(2))?;
-    go_together(&rule, &take)?;
-    Ok((rule, take))
 }
 
 /// The verdict on a rule and a looped take, or on a rule and an open one.

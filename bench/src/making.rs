@@ -1,7 +1,7 @@
-// Making sheets.
-use crate::reading::Refusal;
-use crate::rule::{normal, read_rule, Rule};
-use crate::take::{go_together, read_take, Take};
+// Making sheets, and their length.
+use crate::reading::{number_length, Refusal};
+use crate::rule::{normal, Rule};
+use crate::take::{read_pair, Take};
 use crate::truth::truths;
 
 /// The activators of the sheet, a line of cycles for each row, one behind the other; none where the rule is not satisfied or not kept.
@@ -26,10 +26,20 @@ fn sheet_text(active: &[bool], cycles: usize) -> String {
     text
 }
 
+/// The length of the sheet file of so many rows and cycles.
+fn text_length(rows: usize, cycles: usize) -> usize {
+    let lines: usize = (1..=rows).map(|k| "z=\n".len() + number_length(k) + cycles).sum();
+    "format=1\nrows=\ncycles=\n".len() + number_length(rows) + number_length(cycles) + lines
+}
+
 /// The sheet file of the rule and the take in these files, or none.
 pub fn make_files(rule: &[u8], take: &[u8]) -> Result<Option<String>, Refusal> {
-    let rule = read_rule(rule).map_err(|fault| fault.of(1))?;
-    let take = read_take(take).map_err(|fault| fault.of(2))?;
-    go_together(&rule, &take)?;
+    let (rule, take) = read_pair(rule, take)?;
     Ok(make(&rule, &take).map(|active| sheet_text(&active, take.cycles)))
+}
+
+/// The length of that file, 0 where there is none.
+pub fn sheet_length(rule: &[u8], take: &[u8]) -> Result<usize, Refusal> {
+    let (rule, take) = read_pair(rule, take)?;
+    Ok(make(&rule, &take).map_or(0, |active| text_length(active.len() / take.cycles, take.cycles)))
 }

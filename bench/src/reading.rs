@@ -39,6 +39,11 @@ pub fn number(text: &str) -> Option<usize> {
     text.parse().ok()
 }
 
+/// How many digits a number is written with.
+pub fn number_length(n: usize) -> usize {
+    n.checked_ilog10().unwrap_or(0) as usize + 1
+}
+
 /// A number in a key: it has no leading zeros.
 fn key_number(text: &str) -> Option<usize> {
     if text.len() > 1 && text.starts_with('0') {

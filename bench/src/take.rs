@@ -1,6 +1,6 @@
 // Take files.
 use crate::reading::{number, Fault, Lines, Refusal};
-use crate::rule::Rule;
+use crate::rule::{read_rule, Rule};
 
 pub struct Take {
     pub signals: usize,
@@ -59,4 +59,12 @@ pub fn go_together(rule: &Rule, take: &Take) -> Result<(), Refusal> {
     } else {
         Err(Refusal { reason: 7, file: 0, line: 0 })
     }
+}
+
+/// The rule and the take in these files, which must go together.
+pub fn read_pair(rule: &[u8], take: &[u8]) -> Result<(Rule, Take), Refusal> {
+    let rule = read_rule(rule).map_err(|fault| fault.of(1))?;
+    let take = read_take(take).map_err(|fault| fault.of(2))?;
+    go_together(&rule, &take)?;
+    Ok((rule, take))
 }

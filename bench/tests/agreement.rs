@@ -49,6 +49,7 @@ fn by_plain(call: &Call) -> Outcome {
         Service::Bound => rows().map(|(rows, _)| Answer::Number(29 + 44 * rows)).map_err(of(1)),
         Service::Rows => rows().map(|(_, rows)| Answer::Number(rows)).map_err(of(1)),
         Service::Normal => normal::normal_file(input(0), negated).map(|bytes| put(&bytes, &mut output)),
+        Service::NormalLength => normal::normal_length(input(0), negated).map(Answer::Number),
         Service::Judge => either().map(verdict),
         Service::JudgeLooped => judging::judge_files(input(0), input(1), true).map(verdict),
         Service::JudgeOpen => judging::judge_files(input(0), input(1), false).map(verdict),
@@ -57,6 +58,7 @@ fn by_plain(call: &Call) -> Outcome {
         Service::MakeSheet => {
             making::make_files(input(0), input(1)).map(|made| made.map_or(Answer::None, |text| put(text.as_bytes(), &mut output)))
         }
+        Service::SheetLength => making::sheet_length(input(0), input(1)).map(Answer::Number),
         Service::CheckSheet => checking::check_files(input(0), input(1), input(2)).map(finding),
         Service::RunBegin => run::run_begin(input(0), &mut output).map(Answer::Number),
         Service::RunCycle => run::run_cycle(&mut output, input(0)).map(|()| Answer::Accepted),

@@ -4,6 +4,7 @@ use crate::tally;
 use second::{Finding, Refusal, Verdict};
 
 const REFUSED: u64 = 1 << 63;
+const TOO_SHORT: u64 = REFUSED | 10;
 
 /// An answer of the second implementation as the library's number.
 pub trait Coded {
@@ -67,10 +68,12 @@ pub fn alike(service: &'static str, library: u64, second: u64) {
 }
 
 /// The same for a service that writes: with an output that is long enough, with one as long as what is written, and with one
-/// that is a byte too short. Each side gets an output of its own, filled alike; they must be equal to the last byte afterwards.
+/// that is a byte too short. `told` is what the service for its length answers, if it has one; all answers are held to it. Each side
+/// gets an output of its own, filled alike; they must be equal to the last byte afterwards.
 pub fn alike_writing(
     service: &'static str,
     most: usize,
+    told: Option<u64>,
     library: impl Fn(&mut [u8]) -> u64,
     second: impl Fn(&mut [u8]) -> u64,
 ) {
@@ -82,8 +85,11 @@ pub fn alike_writing(
         answer
     };
     let answer = call(most);
-    if answer & REFUSED == 0 && answer > 0 {
-        call(answer as usize);
-        call(answer as usize - 1);
+    let told = told.unwrap_or(answer);
+    assert!(answer == told, "{service}: its length is told as {told:#x}, and it answers {answer:#x}");
+    if told & REFUSED == 0 {
+        let length = told as usize;
+        assert!(call(length) == told, "{service}: {length} bytes do not do");
+        assert!(length == 0 || call(length - 1) == TOO_SHORT, "{service}: a byte fewer than {length} does");
     }
 }

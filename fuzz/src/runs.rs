@@ -16,6 +16,7 @@ pub fn on_run(rule: &[u8], calls: &[u8], changes: &[u8]) {
     alike_writing(
         "run_begin",
         RUN + 16,
+        None,
         |run| library::run_begin(rule, run),
         |run| coded(second::run_begin(rule, run)),
     );

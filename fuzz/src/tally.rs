@@ -22,7 +22,7 @@ fn kind(service: &str, answer: u64) -> String {
         _ if answer >> 63 == 1 => format!("refused with {:2}", answer & 255),
         "judge" | "judge_looped" | "judge_open" | "run_verdict" => word(["holds", "breaks", "kept", "broken", "open"]),
         "check_sheet" => word(["root", "failed", "starved", "pending", "passes"]),
-        "make_sheet" if answer == 0 => "none".to_string(),
+        "make_sheet" | "sheet_length" if answer == 0 => "none".to_string(),
         _ => "answered".to_string(),
     }
 }
@@ -31,7 +31,7 @@ fn kind(service: &str, answer: u64) -> String {
 pub fn print_at_exit() {
     extern "C" fn print() {
         for ((service, kind), count) in COUNTS.lock().expect("there is one thread").iter() {
-            eprintln!("tally: {service:16} {kind:16} {count:12}");
+            eprintln!("tally: {service:21} {kind:16} {count:12}");
         }
     }
     unsafe { atexit(print) };

@@ -14,13 +14,13 @@ const MOST_SHEET: usize = 33_567;
 
 #[derive(Clone, Copy, Debug, PartialEq, Eq)]
 pub enum Target {
-    /// A rule file: reading, bound, rows, normal forms.
+    /// A rule file: reading, bound, rows, normal forms and their lengths.
     Rule,
     /// A take file: reading.
     Take,
     /// A sheet file: reading.
     Sheet,
-    /// Rule and take: the verdicts, the text of `judge`, the sheet made.
+    /// Rule and take: the verdicts, the text of `judge`, the sheet made and its length.
     Judge,
     /// Rule, take and sheet: the check.
     Check,
@@ -82,6 +82,7 @@ impl Target {
             [rule, pendings, activators, signals] => alike_writing(
                 "step",
                 MOST_STEP,
+                None,
                 |output| library::step(rule, pendings, activators, signals, output),
                 |output| coded(second::step(rule, pendings, activators, signals, output)),
             ),
@@ -95,10 +96,15 @@ fn on_rule(rule: &[u8]) {
     alike("read_rule", library::read_rule(rule), coded(second::read_rule(rule)));
     alike("bound", library::bound(rule), coded(second::bound(rule)));
     alike("rows", library::rows(rule), coded(second::rows(rule)));
-    for (service, negated) in [("normal", false), ("normal negated", true)] {
+    for (service, length, negated) in
+        [("normal", "normal_length", false), ("normal negated", "normal_length negated", true)]
+    {
+        let told = library::normal_length(rule, negated);
+        alike(length, told, coded(second::normal_length(rule, negated)));
         alike_writing(
             service,
             MOST_NORMAL,
+            Some(told),
             |output| library::normal(rule, negated, output),
             |output| coded(second::normal(rule, negated, output)),
         );
@@ -112,12 +118,16 @@ fn on_pair(rule: &[u8], take: &[u8]) {
     alike_writing(
         "judge_text",
         MOST_TEXT,
+        None,
         |output| library::judge_text(rule, take, output),
         |output| coded(second::judge_text(rule, take, output)),
     );
+    let told = library::sheet_length(rule, take);
+    alike("sheet_length", told, coded(second::sheet_length(rule, take)));
     alike_writing(
         "make_sheet",
         MOST_SHEET,
+        Some(told),
         |output| library::make_sheet(rule, take, output),
         |output| coded(second::make_sheet(rule, take, output)),
     );

@@ -13,8 +13,13 @@ fn outcome(by: Implementation, call: Call, given: &Inputs) -> (u64, Vec<u8>) {
     (answer, out)
 }
 
+/// Ends the program where the others differ from the library, or the library's length, or its refusal, from what is written.
 fn same(call: Call, given: &Inputs, others: &[Implementation]) {
     let proved = outcome(Implementation::Proved, call, given);
+    if let Some(service) = call.service.length() {
+        let (length, _) = outcome(Implementation::Proved, Call { service, ..call }, given);
+        assert!(length == proved.0, "{service:?} is not the length of {call:?}: {length:x} against {:x}", proved.0);
+    }
     for &by in others.iter().filter(|by| by.offers(call.service)) {
         let (answer, out) = outcome(by, call, given);
         assert!(proved == (answer, out), "{by:?} and the library differ in {call:?}: {answer:x} against {:x}", proved.0);

@@ -11,10 +11,12 @@ pub enum Service {
     ReadPaddedTake,
     ReadPaddedSheet,
     Normal,
+    NormalLength,
     JudgeLooped,
     JudgeOpen,
     Step,
     MakeSheet,
+    SheetLength,
     CheckSheet,
     RunBegin,
     FirstCycle,
@@ -25,7 +27,7 @@ pub enum Service {
 use Service::*;
 
 impl Service {
-    pub const ALL: [Service; 17] = [
+    pub const ALL: [Service; 19] = [
         ReadRule,
         ReadTake,
         ReadSheet,
@@ -33,10 +35,12 @@ impl Service {
         ReadPaddedTake,
         ReadPaddedSheet,
         Normal,
+        NormalLength,
         JudgeLooped,
         JudgeOpen,
         Step,
         MakeSheet,
+        SheetLength,
         CheckSheet,
         RunBegin,
         FirstCycle,
@@ -54,10 +58,12 @@ impl Service {
             ReadPaddedTake => "read a take, padded",
             ReadPaddedSheet => "read a sheet, padded",
             Normal => "normal form",
+            NormalLength => "length of the normal form",
             JudgeLooped => "judge, looped",
             JudgeOpen => "judge, open",
             Step => "step",
             MakeSheet => "make a sheet",
+            SheetLength => "length of a sheet",
             CheckSheet => "check a sheet",
             RunBegin => "begin a run",
             FirstCycle => "take a cycle, the first",
@@ -67,10 +73,19 @@ impl Service {
         }
     }
 
+    /// The service that says how much this one writes, of those that have one.
+    pub fn length(self) -> Option<Service> {
+        match self {
+            Normal => Some(NormalLength),
+            MakeSheet => Some(SheetLength),
+            _ => None,
+        }
+    }
+
     /// Whether the cost may depend on the rule's rows, and on the take's cycles. A cycle's does not depend on those before it; that this is
     /// so is to be seen.
     pub fn grows_in(self) -> (bool, bool) {
-        let only_rows = matches!(self, ReadRule | ReadPaddedRule | Normal | Step | RunBegin | FirstCycle);
+        let only_rows = matches!(self, ReadRule | ReadPaddedRule | Normal | NormalLength | Step | RunBegin | FirstCycle);
         (!matches!(self, ReadTake | ReadPaddedTake), !only_rows)
     }
 
@@ -79,8 +94,8 @@ impl Service {
         match self {
             ReadRule | ReadTake | ReadSheet | ReadPaddedRule | ReadPaddedTake | ReadPaddedSheet => None,
             FirstCycle | MiddleCycle | LastCycle | RunVerdict => None,
-            Normal | Step | RunBegin => Some(Call { service: ReadRule, only_read: false }),
-            JudgeLooped | JudgeOpen | MakeSheet | CheckSheet => Some(Call { service: self, only_read: true }),
+            Normal | NormalLength | Step | RunBegin => Some(Call { service: ReadRule, only_read: false }),
+            JudgeLooped | JudgeOpen | MakeSheet | SheetLength | CheckSheet => Some(Call { service: self, only_read: true }),
         }
     }
 }
@@ -153,10 +168,12 @@ fn proved(service: Service, rule: &[u8], given: &Inputs, out: &mut [u8]) -> u64 
         ReadPaddedTake => c::read_take(&given.padded_take).map(read),
         ReadPaddedSheet => c::read_sheet(&given.padded_sheet).map(read),
         Normal => c::normal(rule, false, out).map(length),
+        NormalLength => c::normal_length(rule, false).map(length),
         JudgeLooped => c::judge_looped(rule, &given.looped).map(verdict),
         JudgeOpen => c::judge_open(rule, &given.open).map(verdict),
         Step => c::step(rule, &given.pendings, &given.activators, &given.signals, out).map(length),
         MakeSheet => c::make_sheet(rule, &given.looped, out).map(|made| made.map_or(0, length)),
+        SheetLength => c::sheet_length(rule, &given.looped).map(length),
         CheckSheet => c::check_sheet(rule, &given.looped, &given.sheet).map(finding),
         RunBegin => c::run_begin(rule, out).map(length),
         FirstCycle | MiddleCycle | LastCycle => c::run_cycle(&mut out[..given.whole_run.len()], &given.signals).map(read),
@@ -168,6 +185,7 @@ fn proved(service: Service, rule: &[u8], given: &Inputs, out: &mut [u8]) -> u64 
 /// The plain-Rust version makes its outputs, and they take the place of `out`; a step and a run it writes as the others do.
 fn plain(service: Service, rule: &[u8], given: &Inputs, out: &mut Vec<u8>) -> u64 {
     let of = |file: u32| move |fault: reading::Fault| fault.of(file);
+    let length = |length: usize| length as u64;
     let verdict = |verdict: judging::Verdict| verdict as u64 + 1;
     let finding = |finding| match finding {
         checking::Finding::Root => found(1, 0, 0),
@@ -188,12 +206,14 @@ fn plain(service: Service, rule: &[u8], given: &Inputs, out: &mut Vec<u8>) -> u6
         ReadPaddedTake => take::read_take(&given.padded_take).map(used).map_err(of(2)),
         ReadPaddedSheet => sheets::read_sheet(&given.padded_sheet).map(used).map_err(of(3)),
         Normal => normal::normal_file(rule, false).map(put),
+        NormalLength => normal::normal_length(rule, false).map(length),
         JudgeLooped => judging::judge_files(rule, &given.looped, true).map(verdict),
         JudgeOpen => judging::judge_files(rule, &given.open, false).map(verdict),
-        Step => monitors::step(rule, &given.pendings, &given.activators, &given.signals, out).map(|length| length as u64),
+        Step => monitors::step(rule, &given.pendings, &given.activators, &given.signals, out).map(length),
         MakeSheet => making::make_files(rule, &given.looped).map(|made| made.map_or(0, |text| put(text.into_bytes()))),
+        SheetLength => making::sheet_length(rule, &given.looped).map(length),
         CheckSheet => checking::check_files(rule, &given.looped, &given.sheet).map(finding),
-        RunBegin => run::run_begin(rule, out).map(|length| length as u64),
+        RunBegin => run::run_begin(rule, out).map(length),
         FirstCycle | MiddleCycle | LastCycle => run::run_cycle(&mut out[..given.whole_run.len()], &given.signals).map(|()| 0),
         RunVerdict => run::run_verdict(&given.whole_run).map(verdict),
     };
@@ -224,10 +244,12 @@ fn second(service: Service, rule: &[u8], given: &Inputs, out: &mut [u8]) -> u64 
         ReadPaddedTake => second::read_take(&given.padded_take).map(read),
         ReadPaddedSheet => second::read_sheet(&given.padded_sheet).map(read),
         Normal => second::normal(rule, false, out).map(length),
+        NormalLength => second::normal_length(rule, false).map(length),
         JudgeLooped => second::judge_looped(rule, &given.looped).map(by_number),
         JudgeOpen => second::judge_open(rule, &given.open).map(by_number),
         Step => second::step(rule, &given.pendings, &given.activators, &given.signals, out).map(length),
         MakeSheet => second::make_sheet(rule, &given.looped, out).map(|made| made.map_or(0, length)),
+        SheetLength => second::sheet_length(rule, &given.looped).map(length),
         CheckSheet => second::check_sheet(rule, &given.looped, &given.sheet).map(finding),
         RunBegin => second::run_begin(rule, out).map(length),
         FirstCycle | MiddleCycle | LastCycle => second::run_cycle(&mut out[..given.whole_run.len()], &given.signals).map(read),
