@@ -27,6 +27,7 @@ use Rattle.writing.specs.Refusal.{refusalText}
 use Rattle.judge_text.specs.Text.{verdictText}
 use Rattle.sheet_file.specs.Sheet.{parseSheet}
 use Rattle.sheet_file.specs.Written.{writtenSheet}
+use Rattle.sheet_maker.specs.Length.{rowsLength}
 use Rattle.checking.proofs.ByReport.{report-from, reported, survey-from, surveyed, computedFinding}
 use Rattle.cases.specs.Case.{Case, Each, Each.none, Each.first, Says}
 use Rattle.cases.specs.Table.{cases}
@@ -38,7 +39,7 @@ a also b = first a b
 
 -- row by row; of a verdict: the signals agree, the ending is what the service needs, and the bits give the verdict
 computed : Each Computed cases
-unfolding parseRule keyedLine cutOf firstWhere further sameBytes countForm numberOf paddedOf digitsOf digitsFrom bodyLines isNumbered rowValue rowForm formOf kindNamed kinds kindAt dualOf tabulateFrom writtenRule writtenBody decimal decimalIn markedDown reach listing normalListing normalForm writtenNormal refusalText parseTake areDigits digitsForm endingValue bitAt wordFrom laneOf position approximant bitsWithin bitsOf verdictText parseSheet writtenSheet report-from reported survey-from surveyed computedFinding
+unfolding parseRule keyedLine cutOf firstWhere further sameBytes countForm numberOf paddedOf digitsOf digitsFrom bodyLines isNumbered rowValue rowForm formOf kindNamed kinds kindAt dualOf tabulateFrom writtenRule writtenBody decimal decimalIn markedDown reach listing normalListing normalForm writtenNormal refusalText parseTake areDigits digitsForm endingValue bitAt wordFrom laneOf position approximant bitsWithin bitsOf verdictText parseSheet writtenSheet report-from reported survey-from surveyed computedFinding rowsLength
 computed =
     refl
     also (λ buf. (refl, refl))
@@ -77,6 +78,13 @@ computed =
     also refl
     also refl
     also refl
+    also refl
+    also refl
+    also refl
+    also (refl, refl)
+    also (refl, refl)
+    also (refl, refl)
+    also (refl, refl)
     also none
 
 pub all-cases : Each Says cases

@@ -42,8 +42,9 @@ use Rattle.run.proofs.Services.{after-accepted}
 use Rattle.run.proofs.TakeFile.{trace-range, traceSoFar}
 use Rattle.run.proofs.Verdicts.{verdict-is}
 use Rattle.cases.proofs.ComputedSheets.{ChecksTo, check-computed, MakesTo, make-computed}
+use Rattle.cases.proofs.ComputedLengths.{MeasuresTo, measure-computed}
 use Rattle.cases.specs.Case.{File, fileBytes, Case, Watched, Answered, Runs, Says, Each, Each.none, Each.first}
-use Rattle.cases.specs.Case.Case.{normal-form, bound, looped, opened, prints, makes, checks, runs}
+use Rattle.cases.specs.Case.Case.{normal-form, bound, normal-length, looped, opened, prints, makes, sheet-length, checks, runs}
 
 -- both files are read, their signals agree, the ending is what the service needs, and the bits give the verdict
 abbrev Judges : Wanted → Verdict → Result Formula → Result Trace → Type 0
@@ -58,6 +59,12 @@ PrintsText text (accepted f) (refused e n) = refusalText (record { reason = e; f
 PrintsText text (refused e n) q = refusalText (record { reason = e; file = 1; line = n }) ≡ text
 
 -- a case on the normal form is computed itself
+-- of a length: the two files are read, and their tables are so
+abbrev pub OnTwo : Result Formula → Result Trace → (Formula → Trace → Type 0) → Type 0
+OnTwo (accepted f) (accepted t) P = P f t
+OnTwo (accepted f) (refused e n) P = ⊥
+OnTwo (refused e n) q P = ⊥
+
 -- of a sheet: the three files are read, and their tables are so
 abbrev pub OnThree : Result Formula → Result Trace → Result Activation → (Formula → Trace → Activation → Type 0) → Type 0
 OnThree (accepted f) (accepted t) (accepted a) P = P f t a
@@ -79,10 +86,12 @@ OnOne (refused e n) P = ⊥
 abbrev pub Computed : Case → Type 0
 Computed (normal-form rule s out) = Says (normal-form rule s out)
 Computed (bound rule n) = Says (bound rule n)
+Computed (normal-length rule s n) = Says (normal-length rule s n)
 Computed (looped rule take v) = Judges Looped v (parseRule (fileBytes rule)) (parseTake (fileBytes take))
 Computed (opened rule take v) = Judges Unlooped v (parseRule (fileBytes rule)) (parseTake (fileBytes take))
 Computed (prints rule take text) = PrintsText (fileBytes text) (parseRule (fileBytes rule)) (parseTake (fileBytes take))
 Computed (makes rule take sheet) = OnThree (parseRule (fileBytes rule)) (parseTake (fileBytes take)) (parseSheet (fileBytes sheet)) (MakesTo (fileBytes sheet))
+Computed (sheet-length rule take n) = OnTwo (parseRule (fileBytes rule)) (parseTake (fileBytes take)) (MeasuresTo n)
 Computed (checks rule take sheet x) = OnThree (parseRule (fileBytes rule)) (parseTake (fileBytes take)) (parseSheet (fileBytes sheet)) (λ f t a. ChecksTo f t a x)
 Computed (runs rule watched) = OnOne (parseRule (fileBytes rule)) (λ f. RunsTo f [] watched)
 
@@ -101,6 +110,12 @@ module _ (rule take : File) where
       rw (sym (agree (f .signals) (t .signals) same)) (computedVerdict f t, told, sym e)
   printed text (accepted f) (refused e n) fr tr x = sym x
   printed text (refused e n) q fr tr x = sym x
+
+  measured : (n : ℕ) (p : Result Formula) (q : Result Trace) → parseRule (fileBytes rule) ≡ p → parseTake (fileBytes take) ≡ q
+      → OnTwo p q (MeasuresTo n) → Says (sheet-length rule take n)
+  measured n (accepted f) (accepted t) fr tr c = rw (fr, tr) (measure-computed f t (rule-valid (fileBytes rule) f fr) (take-valid (fileBytes take) t tr) n c)
+  measured n (accepted f) (refused e m) fr tr c = absurd c
+  measured n (refused e m) q fr tr c = absurd c
 
 module _ (rule take sheet : File) where
   made : (p : Result Formula) (q : Result Trace) (r : Result Activation) → parseRule (fileBytes rule) ≡ p → parseTake (fileBytes take) ≡ q
@@ -138,10 +153,12 @@ ran-file rule watched (refused e n) fr x = absurd x
 pub computed-says : (c : Case) → Computed c → Says c
 computed-says (normal-form rule s out) x = x
 computed-says (bound rule n) x = x
+computed-says (normal-length rule s n) x = x
 computed-says (looped rule take v) x = judged rule take Looped v _ _ refl refl x
 computed-says (opened rule take v) x = judged rule take Unlooped v _ _ refl refl x
 computed-says (prints rule take text) x = printed rule take (fileBytes text) _ _ refl refl x
 computed-says (makes rule take sheet) x = made rule take sheet _ _ _ refl refl refl x
+computed-says (sheet-length rule take n) x = measured rule take n _ _ refl refl x
 computed-says (checks rule take sheet y) x = checked rule take sheet _ _ _ y refl refl refl x
 computed-says (runs rule watched) x = ran-file rule watched _ refl x
 

@@ -1,3 +1,4 @@
 pub mod ComputedSheets
+pub mod ComputedLengths
 pub mod Computed
 pub mod Cases

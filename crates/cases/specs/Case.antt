@@ -22,6 +22,7 @@ use Rattle.writing.specs.Answer.{writtenAnswer}
 use Rattle.writing.specs.Lent.{overlaid}
 use Rattle.writing.specs.declared.answer.Bytes.the-variants.{Count}
 use Rattle.normal_file.specs.Answer.{normalAnswer, normalLeft, boundAnswer}
+use Rattle.normal_length.specs.Answer.{lengthAnswer}
 use Rattle.judging.specs.declared.verdict.Verdict.{Verdict}
 use Rattle.judging.specs.declared.verdict.Answer.{Answer}
 use Rattle.judging.specs.declared.verdict.Answer.the-variants.{Judged}
@@ -32,6 +33,7 @@ use Rattle.judge_text.specs.Answer.{IsText}
 use Rattle.run.specs.Cycles.{cycleOutcome}
 use Rattle.run.specs.Verdict.{VerdictSoFar}
 use Rattle.sheet_maker.specs.Answer.{answerOf, Makes}
+use Rattle.sheet_length.specs.Answer.{Measures}
 use Rattle.checking.specs.declared.finding.Finding.{Finding}
 use Rattle.checking.specs.declared.finding.CheckAnswer.the-variants.{Checked}
 use Rattle.checking.specs.Answer.{checkOutcome, CheckAnswers}
@@ -54,14 +56,16 @@ pub record Watched : Type 0 where
 pub data Case : Type 0 where
   -- the file of its normal form, or of its negation's
   normal-form : File → Sign → File → Case
-  -- the bound on that file's length
+  -- the bound on that file's length, and the length itself
   bound : File → ℕ → Case
+  normal-length : File → Sign → ℕ → Case
   -- the verdict on a looped take, and on an open one
   looped opened : File → File → Verdict → Case
   -- the text that `judge` prints
   prints : File → File → File → Case
-  -- the sheet that is made
+  -- the sheet that is made, and the length of that, 0 where there is none
   makes : File → File → File → Case
+  sheet-length : File → File → ℕ → Case
   -- what a check of a sheet finds
   checks : File → File → File → Finding → Case
   -- a run: its cycles, each with the verdict behind it
@@ -99,10 +103,12 @@ Runs f cs (w ∷ ws) =
     let more : List (List Bool) = cs ++ (digitsIn (bytes (w .digits)) ∷ []) in
     (cycleOutcome (f .signals) (length cs) (bytes (w .digits)) ≡ Accepted) × VerdictSoFar f more (Judged (w .verdict)) × Runs f more ws
 
--- of `prints` too: no other text is the text of `judge` for the two files (proofs, `one-text`)
+-- of `prints` too: no other text is the text of `judge` for the two files (proofs, `one-text`); of `sheet-length` too: no other length
+-- is (sheet_length/proofs, `measures-once`)
 abbrev pub Says : Case → Type 0
 Says (normal-form rule s out) = OnRule rule (λ f. Writes f s (fileBytes out))
 Says (bound rule n) = OnRule rule (λ f. boundAnswer f ≡ Count n)
+Says (normal-length rule s n) = OnRule rule (λ f. lengthAnswer f s ≡ Count n)
 Says (looped rule take v) = Answered (pairOutcome Looped) rule take (Judged v)
 Says (opened rule take v) = Answered (pairOutcome Unlooped) rule take (Judged v)
 Says (prints rule take text) = IsText (parseRule (fileBytes rule)) (parseTake (fileBytes take)) (fileBytes text)
@@ -110,6 +116,7 @@ Says (makes rule take sheet) =
     OnRule rule
     (λ f. OnTake take
     (λ t. (before : List ℕ) → Makes f t before (overlaid (fileBytes sheet) before) (answerOf (writtenAnswer (fileBytes sheet) before))))
+Says (sheet-length rule take n) = OnRule rule (λ f. OnTake take (λ t. Measures f t (Count n)))
 Says (checks rule take sheet x) =
     OnRule rule
     (λ f. OnTake take (λ t. OnSheet sheet (λ a. CheckAnswers (checkOutcome f t a) f t a (Checked x))))

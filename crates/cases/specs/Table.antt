@@ -1,5 +1,5 @@
 -- The cases that 01 marks P ("Rules and takes to try"), one row each, and some that it does not: two on `next`, that the sheet made for
--- rule A passes, two runs (02, request 1), padded files (02, request 2), and such as name each word once: what `judge` prints for each
+-- rule A passes, two runs (02, request 1), padded files (02, request 2), lengths (02, request 3), and such as name each word once: what `judge` prints for each
 -- verdict and for a refusal in either file, and the normal forms of a rule with all fourteen words. Assumes nothing.
 use Prim.Native.String.{String}
 use mathlib.Core.List.{List, [], _∷_}
@@ -8,7 +8,7 @@ use Rattle.judging.specs.declared.verdict.Verdict.{Verdict}
 use Rattle.judging.specs.declared.verdict.Verdict.the-variants.{Holds, Breaks, Kept, Broken, Open}
 use Rattle.checking.specs.declared.finding.Finding.the-variants.{Failed, Starved, Passes}
 use Rattle.cases.specs.Case.{File, Case, Watched}
-use Rattle.cases.specs.Case.Case.{normal-form, bound, looped, opened, prints, makes, checks, runs}
+use Rattle.cases.specs.Case.Case.{normal-form, bound, normal-length, looped, opened, prints, makes, sheet-length, checks, runs}
 
 abbrev pub ruleA : File
 ruleA =
@@ -290,4 +290,12 @@ cases =
     prints ruleSix padded-10-01 refusedSix ∷
     prints ruleKey padded-10-01 refusedKey ∷
     prints ruleNoRows padded-10-01 refusedNoRows ∷
-    prints ruleNoOperand padded-10-01 refusedNoOperand ∷ []
+    prints ruleNoOperand padded-10-01 refusedNoOperand ∷
+    -- "For rule A the first answer is 77. Where the sheet's answer is `none`, its length is 0."
+    normal-length ruleA Plain 77 ∷
+    normal-length ruleA Negated 78 ∷
+    normal-length ruleWords Plain 192 ∷
+    sheet-length ruleA loop0-10-01 55 ∷
+    sheet-length ruleA loop1-10-10 0 ∷
+    sheet-length ruleUntil open-10-01 43 ∷
+    sheet-length ruleUntil open-10-10 0 ∷ []

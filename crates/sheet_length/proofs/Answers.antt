@@ -62,7 +62,7 @@ module _ (f : Formula) (t : Trace) (answer reply : Bytes) where
   measured-once fine (none s p) (none r q) = p ∙ sym q
 
   -- whatever checks come before, if what they accept is in range
-  measures-once : (o : Outcome) → (o ≡ Accepted → FormulaInRange f) → MeasuresOn o f t answer → MeasuresOn o f t reply → answer ≡ reply
+  pub measures-once : (o : Outcome) → (o ≡ Accepted → FormulaInRange f) → MeasuresOn o f t answer → MeasuresOn o f t reply → answer ≡ reply
   measures-once Accepted fine x y = measured-once (fine refl) x y
   measures-once (Refused why) fine x y = x ∙ sym y
 

@@ -73,7 +73,7 @@ module _ (f : Formula) (t : Trace) (before after : List ℕ) (answer : MakerAnsw
       some-sheet b again (size ∙ ap length same) u w
   both-on n Accepted fine (sheet s a made p) (none r u w) = absurd (r s)
   both-on n Accepted fine (none s p) (sheet r b again u w) = absurd (s r)
-  both-on n Accepted fine (none s p) (none r u w) = no-sheet (cc) u w
+  both-on n Accepted fine (none s p) (none r u w) = no-sheet (let q : Count n ≡ Count 0 = p in cc) u w
 
   pub written-there : (n : ℕ) → Both n → 0 < n → n ≤ length before → answer ≡ Written n
   written-there n (some-sheet a made e u w) some h = u ∙ ap answerOf (room-enough (writtenSheet a) before (omega (arith, e))) ∙ rw e refl
