@@ -1,6 +1,6 @@
 -- The length service's answers by their cases, and that there is one. Assumes nothing.
 use Prim.Native.Nat.{ℕ, _≤_}
-use mathlib.Core.Path.{_≡_, refl, sym, ap, subst, subst⁻¹, _∙_}
+use mathlib.Core.Path.{_≡_, refl, sym, ap, subst⁻¹, _∙_}
 use mathlib.Core.Logic.{_↔_}
 use mathlib.Core.Bool.{Bool, true, false}
 use native.Mathlib.Omega.{arith}
@@ -19,7 +19,6 @@ use Rattle.take_file.specs.Valid.{InRange as TraceInRange}
 use Rattle.sheet_file.specs.Written.{writtenSheet}
 use Rattle.meaning.proofs.Readings.{on-and-off}
 use Rattle.normal_form.specs.declared.sign.Sign.the-variants.{Plain}
-use Rattle.normal_form.specs.Form.{InNormalForm}
 use Rattle.normal_form.specs.Numbering.{normalForm}
 use Rattle.normal_form.proofs.Ranges.{form-normal}
 use Rattle.monitors.specs.Sheet.{activatorAt}
@@ -28,7 +27,7 @@ use Rattle.meeting.specs.declared.Wanted.the-variants.{Either}
 use Rattle.sheet_maker.specs.Length.{sheetLength}
 use Rattle.sheet_maker.specs.Made.{Satisfied, IsMade}
 use Rattle.sheet_maker.proofs.Lengths.{sheet-size}
-use Rattle.sheet_maker.proofs.Sheets.{made-root, made-unique}
+use Rattle.sheet_maker.proofs.Sheets.{root-set, made-unique}
 use Rattle.writing.specs.declared.answer.Bytes.{Bytes}
 use Rattle.writing.specs.declared.answer.Bytes.the-variants.{Count, Refused as BytesRefused}
 use Rattle.sheet_length.specs.Answer.{Measured, Measured.sheet, Measured.none, MeasuresOn, Measures}
@@ -36,21 +35,6 @@ use Rattle.sheet_length.specs.Answer.{Measured, Measured.sheet, Measured
 -- the file of a sheet that is made has the length that its rows and cycles give
 made-size : (g : NormalForm) (t : Trace) (a : Activation) → g .rows ≤ 128 → t .cycles ≤ 256 → IsMade g t a → length (writtenSheet a) ≡ sheetLength (a .rows) (a .cycles)
 made-size g t a rows cycles made = sheet-size a (made .places) (omega (arith, made .rows)) (omega (arith, made .cycles))
-
--- the normal form that the meeting gave, and a sheet made of it
-module _ (f : Formula) (t : Trace) (fine : FormulaInRange f) (range : TraceInRange t) {g : NormalForm} (same : g ≡ normalForm f Plain) where
-  pub form-met : InNormalForm g
-  form-met = subst⁻¹ InNormalForm same (form-normal f Plain fine)
-
-  module _ {a : Activation} (made : IsMade g t a) where
-    pub made-met : IsMade (normalForm f Plain) t a
-    made-met = subst (λ g. IsMade g t a) same made
-
-    pub rows-met : (1 ≤ a .rows) × (a .rows ≤ 128)
-    rows-met = (omega (arith, made .rows, form-met .some-rows), omega (arith, made .rows, form-met .most-rows))
-
-    pub cycles-met : a .cycles ≤ 256
-    cycles-met = omega (arith, made .cycles, range .most-cycles)
 
 -- THE CONTRACT FIXES THE ANSWER
 module _ (f : Formula) (t : Trace) (answer reply : Bytes) where
@@ -75,7 +59,7 @@ module _ (o : Outcome) (f : Formula) (t : Trace) (fine : o ≡ Accepted → Form
 
   module _ (range : TraceInRange t) (a : Activation) (made : IsMade (normalForm f Plain) t a) (e : o ≡ Accepted) {b : Bool} (bit : b ≡ activatorAt a 0 (a .rows)) where
     root : (b ≡ true) ↔ Satisfied f t
-    root = subst⁻¹ (λ x. (x ≡ true) ↔ Satisfied f t) (bit ∙ ap (activatorAt a 0) (made .rows)) (made-root f t (fine e) a (range .some-cycles) made)
+    root = root-set f t (fine e) a (range .some-cycles) made bit
 
     pub sheet-measures : b ≡ true → {n : ℕ} → n ≡ sheetLength (a .rows) (a .cycles) → TheOnly (MeasuresOn o f t) (Count n)
     sheet-measures y {n} p =

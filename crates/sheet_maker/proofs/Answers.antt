@@ -1,16 +1,14 @@
 -- The sheet maker's answers by their cases. Assumes nothing.
-use Prim.Native.Nat.{ℕ, _-_, _≤_}
+use Prim.Native.Nat.{ℕ}
 use mathlib.Core.Path.{_≡_, refl, sym, ap, subst⁻¹, _∙_}
 use mathlib.Core.Logic.{_↔_}
 use mathlib.Core.Bool.{Bool, true, false}
 use mathlib.Core.List.{List}
-use native.Mathlib.Omega.{arith}
 use Rattle.tables.specs.Only.{TheOnlyPair}
 use Rattle.tables.specs.declared.refusal.Refusal.{Refusal}
 use Rattle.tables.specs.declared.refusal.Outcome.{Outcome}
 use Rattle.tables.specs.declared.refusal.Outcome.the-variants.{Accepted, Refused}
 use Rattle.tables.specs.declared.row.Formula.{Formula}
-use Rattle.tables.specs.declared.row.NormalForm.{NormalForm}
 use Rattle.tables.specs.declared.trace.Activation.{Activation}
 use Rattle.tables.specs.declared.trace.Trace.{Trace}
 use Rattle.tables.specs.Refusal.{andThen}
@@ -21,7 +19,6 @@ use Rattle.take_file.specs.Valid.{InRange as TraceInRange}
 use Rattle.sheet_file.specs.Written.{writtenSheet}
 use Rattle.meaning.proofs.Readings.{on-and-off}
 use Rattle.normal_form.specs.declared.sign.Sign.the-variants.{Plain}
-use Rattle.normal_form.specs.Form.{InNormalForm}
 use Rattle.normal_form.specs.Numbering.{normalForm}
 use Rattle.normal_form.proofs.Ranges.{form-normal}
 use Rattle.monitors.specs.Sheet.{activatorAt}
@@ -34,7 +31,7 @@ use Rattle.sheet_maker.specs.declared.MakerAnswer.{MakerAnswer}
 use Rattle.sheet_maker.specs.declared.MakerAnswer.the-variants.{None, Refused as MakerRefused}
 use Rattle.sheet_maker.specs.Made.{Satisfied, IsMade}
 use Rattle.sheet_maker.specs.Answer.{answerOf, Answers, Answers.sheet, Answers.none, MakesOn, Makes}
-use Rattle.sheet_maker.proofs.Sheets.{made-root, made-unique}
+use Rattle.sheet_maker.proofs.Sheets.{root-set, made-unique}
 
 -- THE CONTRACT FIXES ANSWER AND BYTES
 module _ (f : Formula) (t : Trace) (before : List ℕ) (after other : List ℕ) (answer reply : MakerAnswer) where
@@ -64,7 +61,7 @@ module _ (o : Outcome) (f : Formula) (t : Trace) (before : List ℕ) (fine : o �
 
   module _ (range : TraceInRange t) (a : Activation) (made : IsMade (normalForm f Plain) t a) (e : o ≡ Accepted) {b : Bool} (bit : b ≡ activatorAt a 0 (a .rows)) where
     root : (b ≡ true) ↔ Satisfied f t
-    root = subst⁻¹ (λ x. (x ≡ true) ↔ Satisfied f t) (bit ∙ ap (activatorAt a 0) (made .rows)) (made-root f t (fine e) a (range .some-cycles) made)
+    root = root-set f t (fine e) a (range .some-cycles) made bit
 
     pub sheet-makes : b ≡ true → {after : List ℕ} {bytes : Bytes} {answer : MakerAnswer} → answer ≡ answerOf bytes → Delivers (writtenSheet a) before after bytes → TheOnlyPair (MakesOn o f t before) after answer
     sheet-makes y {after} {bytes} {answer} p d =
@@ -77,14 +74,3 @@ module _ (o : Outcome) (f : Formula) (t : Trace) (before : List ℕ) (fine : o �
 pub met-makes : (f : Formula) (t : Trace) (before : List ℕ) {after : List ℕ} {answer : MakerAnswer} → ownOutcome f t ≡ Accepted
     → TheOnlyPair (MakesOn (meetingOutcome Either f t) f t before) after answer → TheOnlyPair (Makes f t before) after answer
 met-makes f t before {after} {answer} e x = subst⁻¹ (λ o. TheOnlyPair (MakesOn (andThen o (meetingOutcome Either f t)) f t before) after answer) e x
-
--- the sheet has room in its table
-module _ (g : NormalForm) (ok : InNormalForm g) (t : Trace) (range : TraceInRange t) (a : Activation) (made : IsMade g t a) where
-  pub some-rows : 1 ≤ a .rows
-  some-rows = omega (arith, made .rows, ok .some-rows)
-
-  pub most-rows : a .rows ≤ 128
-  most-rows = omega (arith, made .rows, ok .most-rows)
-
-  pub most-cycles : a .cycles ≤ 256
-  most-cycles = omega (arith, made .cycles, range .most-cycles)

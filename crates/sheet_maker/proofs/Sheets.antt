@@ -1,6 +1,6 @@
 -- The sheet that is made: from lanes that tell the truth; what its root says; and that its text is fixed. Assumes nothing.
 use Prim.Native.Nat.{ℕ, suc, _-_, _≤_, _<_, min}
-use mathlib.Core.Path.{_≡_, refl, sym, ap, subst, _∙_}
+use mathlib.Core.Path.{_≡_, refl, sym, ap, subst, subst⁻¹, _∙_}
 use mathlib.Core.Logic.{_↔_, Iff·trans}
 use mathlib.Core.Bool.{Bool, true, false}
 use mathlib.Core.List.{List, [], map}
@@ -18,6 +18,7 @@ use Rattle.tables.specs.declared.trace.Ending.the-variants.{Open, Loop}
 use Rattle.tables.specs.declared.trace.Lane.{Lane}
 use Rattle.tables.specs.declared.trace.Trace.{Trace}
 use Rattle.rule_file.specs.Valid.{InRange as FormulaInRange}
+use Rattle.take_file.specs.Valid.{InRange as TraceInRange}
 use Rattle.sheet_file.specs.Written.{rowsOf, writtenSheet}
 use Rattle.normal_form.specs.declared.sign.Sign.the-variants.{Plain}
 use Rattle.normal_form.specs.Form.{InNormalForm}
@@ -50,10 +51,14 @@ module _ (f : Formula) (t : Trace) (fine : FormulaInRange f) where
   pub root-satisfied : TrueAt (normalForm f Plain) t (normalForm f Plain .rows) 0 ↔ Satisfied f t
   root-satisfied = root-in (t .ending)
 
-  pub made-root : (a : Activation) → 1 ≤ t .cycles → IsMade (normalForm f Plain) t a → (activatorAt a 0 (normalForm f Plain .rows) ≡ true) ↔ Satisfied f t
+  made-root : (a : Activation) → 1 ≤ t .cycles → IsMade (normalForm f Plain) t a → (activatorAt a 0 (normalForm f Plain .rows) ≡ true) ↔ Satisfied f t
   made-root a some made =
       let ok : InNormalForm (normalForm f Plain) = form-normal f Plain fine in
       Iff·trans (made .digits (normalForm f Plain .rows) 0 (ok .some-rows, omega arith) some) root-satisfied
+
+  -- the same of a Bool that says whether the sheet sets its root
+  pub root-set : (a : Activation) → 1 ≤ t .cycles → IsMade (normalForm f Plain) t a → {b : Bool} → b ≡ activatorAt a 0 (a .rows) → (b ≡ true) ↔ Satisfied f t
+  root-set a some made bit = subst⁻¹ (λ x. (x ≡ true) ↔ Satisfied f t) (bit ∙ ap (activatorAt a 0) (made .rows)) (made-root a some made)
 
 -- Bools that are on in the same case
 same-on : (P : Type 0) (x y : Bool) → (x ≡ true) ↔ P → (y ≡ true) ↔ P → x ≡ y
@@ -70,6 +75,21 @@ rows-by-place a h =
     ap (map digits) (sym (tabulate-getD (take (a .rows) (a .lanes)) (a .rows) (record { words = [] }) l))
     ∙ map-tabulate digits (a .rows) (laneIn (take (a .rows) (a .lanes)))
     ∙ tabulate-ext (a .rows) _ _ (λ k b. ap digits (getD-take (a .rows) (a .lanes) k (record { words = [] }) b))
+
+-- the normal form that the meeting gave, and the sheet made of it: it has room in its table
+module _ (f : Formula) (t : Trace) (fine : FormulaInRange f) (range : TraceInRange t) {g : NormalForm} (same : g ≡ normalForm f Plain) where
+  pub form-met : InNormalForm g
+  form-met = subst⁻¹ InNormalForm same (form-normal f Plain fine)
+
+  module _ {a : Activation} (made : IsMade g t a) where
+    pub made-met : IsMade (normalForm f Plain) t a
+    made-met = subst (λ g. IsMade g t a) same made
+
+    pub rows-met : (1 ≤ a .rows) × (a .rows ≤ 128)
+    rows-met = (omega (arith, made .rows, form-met .some-rows), omega (arith, made .rows, form-met .most-rows))
+
+    pub cycles-met : a .cycles ≤ 256
+    cycles-met = omega (arith, made .cycles, range .most-cycles)
 
 -- THE TEXT OF THE SHEET MADE IS FIXED
 pub made-unique : (g : NormalForm) (t : Trace) (a b : Activation) → g .rows ≤ 128 → IsMade g t a → IsMade g t b → writtenSheet a ≡ writtenSheet b

@@ -1,5 +1,5 @@
 -- The text of `sheet` for a sheet that is made. Assumes nothing.
-use mathlib.Core.Path.{_≡_, refl, ap, subst⁻¹, _∙_}
+use mathlib.Core.Path.{_≡_, refl}
 use mathlib.Core.Logic.{_↔_}
 use mathlib.Core.Bool.{Bool, true, false}
 use Rattle.tables.specs.declared.row.Formula.{Formula}
@@ -13,12 +13,12 @@ use Rattle.normal_form.specs.declared.sign.Sign.the-variants.{Plain}
 use Rattle.normal_form.specs.Numbering.{normalForm}
 use Rattle.monitors.specs.Sheet.{activatorAt}
 use Rattle.sheet_maker.specs.Made.{Satisfied, IsMade}
-use Rattle.sheet_maker.proofs.Sheets.{made-root}
+use Rattle.sheet_maker.proofs.Sheets.{root-set}
 use Rattle.sheet_text.specs.Answer.{noneText, IsMadeText, IsMadeText.sheet, IsMadeText.none}
 
 module _ (f : Formula) (t : Trace) (fine : FormulaInRange f) (range : TraceInRange t) (a : Activation) (made : IsMade (normalForm f Plain) t a) {b : Bool} (bit : b ≡ activatorAt a 0 (a .rows)) where
   root : (b ≡ true) ↔ Satisfied f t
-  root = subst⁻¹ (λ x. (x ≡ true) ↔ Satisfied f t) (bit ∙ ap (activatorAt a 0) (made .rows)) (made-root f t fine a (range .some-cycles) made)
+  root = root-set f t fine a (range .some-cycles) made bit
 
   pub sheet-text : b ≡ true → IsMadeText f t (writtenSheet a)
   sheet-text y = sheet (root .0 y) a made refl

@@ -1,5 +1,6 @@
 use Rattle.tables.proofs.Choices.{know}
-use Rattle.sheet_length.proofs.Answers.{form-met, made-met, rows-met, cycles-met, refused-measures, sheet-measures, none-measures}
+use Rattle.sheet_maker.proofs.Sheets.{form-met, made-met, rows-met, cycles-met}
+use Rattle.sheet_length.proofs.Answers.{refused-measures, sheet-measures, none-measures}
 use borrow.Author.Needs.{needs}
 use Rattle.sheet_length.proofs.measure_met.Statement.{statement}
 use Rattle.sheet_length.proofs.measure_met.Tie as tie

@@ -1,15 +1,9 @@
-use mathlib.Core.Path.{subst}
 use native.Mathlib.Omega.{arith}
-use Rattle.tables.specs.declared.row.NormalForm.{NormalForm}
 use Rattle.tables.proofs.Choices.{know}
-use Rattle.normal_form.specs.declared.sign.Sign.the-variants.{Plain}
-use Rattle.normal_form.specs.Form.{InNormalForm}
-use Rattle.normal_form.proofs.Ranges.{form-normal}
 use Rattle.meeting.specs.declared.Wanted.the-variants.{Either}
 use Rattle.meeting.proofs.Laws.{meeting-line}
 use Rattle.writing.proofs.Answers.{told-refused, told-accepted}
-use Rattle.sheet_maker.specs.Made.{IsMade}
-use Rattle.sheet_maker.proofs.Answers.{some-rows, most-rows, most-cycles}
+use Rattle.sheet_maker.proofs.Sheets.{form-met, made-met, rows-met, cycles-met}
 use Rattle.sheet_text.specs.Answer.{IsMadeText}
 use Rattle.sheet_text.proofs.Answers.{sheet-text, none-text}
 use borrow.Author.Needs.{needs}
@@ -20,22 +14,47 @@ deliver-refusal-requires : tie.Need-deliver-refusal-requires
 deliver-refusal-requires c κs = omega (arith, meeting-line Either (c .before .before .before .before .before .before .args .formula) (c .before .before .before .before .before .before .args .trace) (know (c .before .before .before .before .meet .ensures .0) (c .before .before .outcome .given .1)))
 
 truth-sheet-requires : tie.Need-truth-sheet-requires
-truth-sheet-requires c κs = (rw (c .before .before .meet .ensures .1 (c .enum-told .given .1)) (form-normal (c .before .before .before .before .args .formula) Plain (c .before .before .before .before .pre .0)), c .before .before .before .before .pre .1)
+truth-sheet-requires c κs =
+    let start = c .before .before .before .before in
+    let same = c .before .before .meet .ensures .1 (c .enum-told .given .1) in
+    (form-met (start .args .formula) (start .args .trace) (start .pre .0) (start .pre .1) same, start .pre .1)
 
 sets-root-requires : tie.Need-sets-root-requires
-sets-root-requires c κs = let ok : InNormalForm (c .before .before .before .meet .result .form) = rw (c .before .before .before .meet .ensures .1 (c .before .enum-told .given .1)) (form-normal (c .before .before .before .before .before .args .formula) Plain (c .before .before .before .before .before .pre .0)) in let made = c .truth-sheet .ensures in (some-rows (c .before .before .before .meet .result .form) ok (c .before .before .before .before .before .args .trace) (c .before .before .before .before .before .pre .1) _ made, most-rows (c .before .before .before .meet .result .form) ok (c .before .before .before .before .before .args .trace) (c .before .before .before .before .before .pre .1) _ made)
+sets-root-requires c κs =
+    let start = c .before .before .before .before .before in
+    let same = c .before .before .before .meet .ensures .1 (c .before .enum-told .given .1) in
+    rows-met (start .args .formula) (start .args .trace) (start .pre .0) (start .pre .1) same (c .truth-sheet .ensures)
 
 write-sheet-requires : tie.Need-write-sheet-requires
-write-sheet-requires c κs = let ok : InNormalForm (c .before .before .before .before .before .before .meet .result .form) = rw (c .before .before .before .before .before .before .meet .ensures .1 (c .before .before .before .before .enum-told .given .1)) (form-normal (c .before .before .before .before .before .before .before .before .args .formula) Plain (c .before .before .before .before .before .before .before .before .pre .0)) in let made = c .before .before .before .truth-sheet .ensures in (some-rows (c .before .before .before .before .before .before .meet .result .form) ok (c .before .before .before .before .before .before .before .before .args .trace) (c .before .before .before .before .before .before .before .before .pre .1) _ made, most-rows (c .before .before .before .before .before .before .meet .result .form) ok (c .before .before .before .before .before .before .before .before .args .trace) (c .before .before .before .before .before .before .before .before .pre .1) _ made, most-cycles (c .before .before .before .before .before .before .meet .result .form) ok (c .before .before .before .before .before .before .before .before .args .trace) (c .before .before .before .before .before .before .before .before .pre .1) _ made)
+write-sheet-requires c κs =
+    let start = c .before .before .before .before .before .before .before .before in
+    let same = c .before .before .before .before .before .before .meet .ensures .1 (c .before .before .before .before .enum-told .given .1) in
+    let made = c .before .before .before .truth-sheet .ensures in
+    let rows = rows-met (start .args .formula) (start .args .trace) (start .pre .0) (start .pre .1) same made in
+    (rows .0, rows .1, cycles-met (start .args .formula) (start .args .trace) (start .pre .0) (start .pre .1) same made)
 
 returns : tie.Need-returns
 returns c = told-refused _ (IsMadeText (c .before .before .before .before .before .before .before .before .before .args .formula) (c .before .before .before .before .before .before .before .before .before .args .trace)) (know (c .before .before .before .before .before .before .before .meet .ensures .0) (c .before .before .before .before .before .outcome .given .1)) (c .before .before .deliver-refusal .ensures)
 
 returns-2 : tie.Need-returns-2
-returns-2 c = let a = c .before .before .before .before .before .before .before .before .before .before .before .args in let made = subst (λ (g : NormalForm). IsMade g (a .trace) (c .before .before .before .before .before .before .truth-sheet .result)) (c .before .before .before .before .before .before .before .before .before .meet .ensures .1 (c .before .before .before .before .before .before .before .enum-told .given .1)) (c .before .before .before .before .before .before .truth-sheet .ensures) in told-accepted _ (IsMadeText (a .formula) (a .trace)) _ (know (c .before .before .before .before .before .before .before .before .before .meet .ensures .0) (c .before .before .before .before .before .before .before .enum-told .given .1)) (sheet-text (a .formula) (a .trace) (c .before .before .before .before .before .before .before .before .before .before .before .pre .0) (c .before .before .before .before .before .before .before .before .before .before .before .pre .1) _ made (c .before .before .before .before .before .sets-root .ensures) (c .before .before .before .before .if1 .taken)) (c .before .before .write-sheet .ensures)
+returns-2 c =
+    let start = c .before .before .before .before .before .before .before .before .before .before .before in
+    let meet = c .before .before .before .before .before .before .before .before .before .meet .ensures in
+    let told = c .before .before .before .before .before .before .before .enum-told .given .1 in
+    let made = made-met (start .args .formula) (start .args .trace) (start .pre .0) (start .pre .1) (meet .1 told) (c .before .before .before .before .before .before .truth-sheet .ensures) in
+    let text = sheet-text (start .args .formula) (start .args .trace) (start .pre .0) (start .pre .1) _ made (c .before .before .before .before .before .sets-root .ensures)
+    (c .before .before .before .before .if1 .taken) in
+    told-accepted _ (IsMadeText (start .args .formula) (start .args .trace)) _ (know (meet .0) told) text (c .before .before .write-sheet .ensures)
 
 returns-3 : tie.Need-returns-3
-returns-3 c = let a = c .before .before .before .before .before .before .before .before .before .before .before .before .args in let made = subst (λ (g : NormalForm). IsMade g (a .trace) (c .before .before .before .before .before .before .before .truth-sheet .result)) (c .before .before .before .before .before .before .before .before .before .before .meet .ensures .1 (c .before .before .before .before .before .before .before .before .enum-told .given .1)) (c .before .before .before .before .before .before .before .truth-sheet .ensures) in told-accepted _ (IsMadeText (a .formula) (a .trace)) _ (know (c .before .before .before .before .before .before .before .before .before .before .meet .ensures .0) (c .before .before .before .before .before .before .before .before .enum-told .given .1)) (none-text (a .formula) (a .trace) (c .before .before .before .before .before .before .before .before .before .before .before .before .pre .0) (c .before .before .before .before .before .before .before .before .before .before .before .before .pre .1) _ made (c .before .before .before .before .before .before .sets-root .ensures) (c .before .before .before .before .before .if1 .left)) (c .before .before .deliver .ensures)
+returns-3 c =
+    let start = c .before .before .before .before .before .before .before .before .before .before .before .before in
+    let meet = c .before .before .before .before .before .before .before .before .before .before .meet .ensures in
+    let told = c .before .before .before .before .before .before .before .before .enum-told .given .1 in
+    let made = made-met (start .args .formula) (start .args .trace) (start .pre .0) (start .pre .1) (meet .1 told) (c .before .before .before .before .before .before .before .truth-sheet .ensures) in
+    let text = none-text (start .args .formula) (start .args .trace) (start .pre .0) (start .pre .1) _ made (c .before .before .before .before .before .before .sets-root .ensures)
+    (c .before .before .before .before .before .if1 .left) in
+    told-accepted _ (IsMadeText (start .args .formula) (start .args .trace)) _ (know (meet .0) told) text (c .before .before .deliver .ensures)
 
 pub sheet-met-spec : {M : Type 1} → statement M
 sheet-met-spec =
