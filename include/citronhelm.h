@@ -96,7 +96,8 @@ uint64_t citronhelm_rows(const uint8_t *rule, size_t rule_length);
 
 /*
  * The exact length of a rule's normal form as a file, of that of the negated rule where `negated` is not 0. Nothing is written. For
- * citronhelm_normal an output of that length does, and one that is a byte shorter is refused with 10.
+ * citronhelm_normal an output of that length does, and one that is a byte shorter is refused with 10. Refused as citronhelm_normal is, but
+ * never with 10.
  */
 uint64_t citronhelm_normal_length(const uint8_t *rule, size_t rule_length, uint8_t negated);
 
@@ -164,7 +165,8 @@ static inline uint64_t citronhelm_step_in_place(
 
 /*
  * The exact length of the activator sheet of a rule and a take as a file, or 0 (`none`) where the rule does not hold or is not kept.
- * Nothing is written. For citronhelm_make_sheet an output of that length does, and one that is a byte shorter is refused with 10.
+ * Nothing is written. For citronhelm_make_sheet an output of that length does, and where it is not 0, one that is a byte shorter is
+ * refused with 10. Refused as citronhelm_make_sheet is, but never with 10.
  */
 uint64_t citronhelm_sheet_length(const uint8_t *rule, size_t rule_length, const uint8_t *take, size_t take_length);
 

@@ -31,7 +31,7 @@ abbrev pub outcomeCode : Outcome → ℕ
 outcomeCode Accepted = 0
 outcomeCode (Refused why) = refusalCode why
 
--- how many bytes were written
+-- how many bytes were written, or are to be
 abbrev pub bytesCode : Bytes → ℕ
 bytesCode (Count n) = n
 bytesCode (BytesRefused why) = refusalCode why

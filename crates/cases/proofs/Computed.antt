@@ -46,24 +46,21 @@ use Rattle.cases.proofs.ComputedLengths.{MeasuresTo, measure-computed}
 use Rattle.cases.specs.Case.{File, fileBytes, Case, Watched, Answered, Runs, Says, Each, Each.none, Each.first}
 use Rattle.cases.specs.Case.Case.{normal-form, bound, normal-length, looped, opened, prints, makes, sheet-length, checks, runs}
 
--- both files are read, their signals agree, the ending is what the service needs, and the bits give the verdict
+-- both files are read, and their tables are so
+abbrev pub OnTwo : Result Formula → Result Trace → (Formula → Trace → Type 0) → Type 0
+OnTwo (accepted f) (accepted t) P = P f t
+OnTwo (accepted f) (refused e n) P = ⊥
+OnTwo (refused e n) q P = ⊥
+
+-- the signals agree, the ending is what the service needs, and the bits give the verdict
 abbrev Judges : Wanted → Verdict → Result Formula → Result Trace → Type 0
-Judges wanted v (accepted f) (accepted t) = (f .signals ≡ t .signals) × (eightOutcome wanted (t .ending) ≡ Accepted) × (computedVerdict f t ≡ v)
-Judges wanted v (accepted f) (refused e n) = ⊥
-Judges wanted v (refused e n) q = ⊥
+Judges wanted v p q = OnTwo p q (λ f t. (f .signals ≡ t .signals) × (eightOutcome wanted (t .ending) ≡ Accepted) × (computedVerdict f t ≡ v))
 
 -- the same for the text; or the first file that is turned back is told
 abbrev PrintsText : List ℕ → Result Formula → Result Trace → Type 0
 PrintsText text (accepted f) (accepted t) = (f .signals ≡ t .signals) × (verdictText (f .signals) (normalForm f Plain .rows) (t .cycles) (t .ending) (computedVerdict f t) ≡ text)
 PrintsText text (accepted f) (refused e n) = refusalText (record { reason = e; file = 2; line = n }) ≡ text
 PrintsText text (refused e n) q = refusalText (record { reason = e; file = 1; line = n }) ≡ text
-
--- a case on the normal form is computed itself
--- of a length: the two files are read, and their tables are so
-abbrev pub OnTwo : Result Formula → Result Trace → (Formula → Trace → Type 0) → Type 0
-OnTwo (accepted f) (accepted t) P = P f t
-OnTwo (accepted f) (refused e n) P = ⊥
-OnTwo (refused e n) q P = ⊥
 
 -- of a sheet: the three files are read, and their tables are so
 abbrev pub OnThree : Result Formula → Result Trace → Result Activation → (Formula → Trace → Activation → Type 0) → Type 0
@@ -83,6 +80,7 @@ abbrev pub OnOne : Result Formula → (Formula → Type 0) → Type 0
 OnOne (accepted f) P = P f
 OnOne (refused e n) P = ⊥
 
+-- a case on the normal form alone is computed itself
 abbrev pub Computed : Case → Type 0
 Computed (normal-form rule s out) = Says (normal-form rule s out)
 Computed (bound rule n) = Says (bound rule n)

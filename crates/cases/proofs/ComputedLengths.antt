@@ -1,7 +1,6 @@
 -- What the cases on a sheet's length have to compute, and that it makes them so. Assumes nothing.
 use Prim.Native.Nat.{ℕ}
 use mathlib.Core.Path.{_≡_, refl, sym, ap}
-use native.Mathlib.Omega.{arith}
 use lib.ListN.{length}
 use Rattle.tables.proofs.Choices.{clash}
 use Rattle.tables.proofs.Outcomes.{agree}
@@ -31,8 +30,8 @@ use Rattle.writing.specs.declared.answer.Bytes.the-variants.{Count}
 use Rattle.sheet_maker.specs.Length.{sheetLength}
 use Rattle.sheet_maker.specs.Made.{SatisfiedIn, IsMade}
 use Rattle.sheet_maker.proofs.Demand.{sheet-made}
-use Rattle.sheet_maker.proofs.Lengths.{sheet-size}
 use Rattle.sheet_length.specs.Answer.{Measured, Measured.sheet, Measured.none, Measures}
+use Rattle.sheet_length.proofs.Answers.{made-size}
 
 -- there is a sheet where the verdict is one of these
 abbrev pub lengthBy : ℕ → Verdict → ℕ
@@ -57,7 +56,7 @@ module _ (f : Formula) (t : Trace) (rule : FormulaValid f) (take : TraceValid t)
       let s = sheet-made g t ok (take .range .most-cycles) (take .range .loop) in
       let a : Activation = s .0 in
       let is : IsMade g t a = s .1 in
-      let size = sheet-size a (is .places) (omega (arith, is .rows, ok .most-rows)) (omega (arith, is .cycles, take .range .most-cycles)) in
+      let size = made-size g t a (ok .most-rows) (take .range .most-cycles) is in
       let same : length (writtenSheet a) ≡ sheetLength (g .rows) (t .cycles) = rw (is .rows, is .cycles) at size in
       sheet satisfied a is (ap Count (sym same))
 

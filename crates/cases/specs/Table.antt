@@ -1,6 +1,7 @@
 -- The cases that 01 marks P ("Rules and takes to try"), one row each, and some that it does not: two on `next`, that the sheet made for
--- rule A passes, two runs (02, request 1), padded files (02, request 2), lengths (02, request 3), and such as name each word once: what `judge` prints for each
--- verdict and for a refusal in either file, and the normal forms of a rule with all fourteen words. Assumes nothing.
+-- rule A passes, two runs (02, request 1), padded files (02, request 2), lengths (02, request 3), and such as name each word once: what
+-- `judge` prints for each verdict and for a refusal in either file, and the normal forms of a rule with all fourteen words.
+-- Assumes nothing.
 use Prim.Native.String.{String}
 use mathlib.Core.List.{List, [], _∷_}
 use Rattle.normal_form.specs.declared.sign.Sign.the-variants.{Plain, Negated}

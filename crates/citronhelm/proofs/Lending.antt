@@ -11,7 +11,6 @@ use Rattle.tables.specs.declared.refusal.Outcome.the-variants.{Accepted, Refuse
 use Rattle.tables.specs.declared.refusal.Refusal.{Refusal}
 use Rattle.tables.specs.declared.row.Formula.{Formula}
 use Rattle.tables.specs.declared.trace.Trace.{Trace}
-use Rattle.tables.proofs.Choices.{clash}
 use Rattle.text.specs.Result.{Result}
 use Rattle.text.specs.Result.Result.{accepted, refused}
 use Rattle.rule_file.specs.Rule.{parseRule}
@@ -24,13 +23,14 @@ use Rattle.meeting.specs.Meeting.{meetingOutcome}
 use Rattle.meeting.specs.declared.Wanted.the-variants.{Either}
 use Rattle.sheet_maker.specs.declared.MakerAnswer.{MakerAnswer}
 use Rattle.sheet_maker.specs.Answer.{MakesOn}
-use Rattle.sheet_length.specs.Answer.{Measured.sheet, Measured.none, MeasuresOn}
+use Rattle.sheet_length.specs.Answer.{MeasuresOn}
+use Rattle.sheet_length.proofs.Answers.{never-refused}
 use Rattle.sheet_length.proofs.Lending.{Both, both-on, none-there, refused-there, written-there}
 use Rattle.writing.specs.Answer.{tooShort}
 use Rattle.writing.specs.declared.answer.Bytes.{Bytes}
 use Rattle.writing.specs.declared.answer.Bytes.the-variants.{Count, Refused as BytesRefused}
-use Rattle.writing.proofs.Room.{room-enough, room-short}
-use Rattle.writing.proofs.Texts.{overlaid-none}
+use Rattle.writing.proofs.Answers.{short-delivers}
+use Rattle.writing.proofs.Room.{room-enough}
 use Rattle.answer_code.specs.Code.{bytesCode, makerCode, refusalCode, signOf}
 use Rattle.answer_code.proofs.Codes.{code-refused}
 use Rattle.citronhelm.specs.Service.{MadeAs, MeasuredAs, Turned, WrittenAs}
@@ -67,7 +67,10 @@ normal-lends rule negated before after r w = by (parseRule rule) refl
         record {
           refused-alike = λ h. absurd (omega arith);
           enough = λ h l. y .0 ∙ ap bytesCode (room-enough text before (omega arith)) ∙ sym x;
-          fewer = λ h l. (y .0 ∙ ap bytesCode (room-short text before (omega arith)), y .1 ∙ sym (overlaid-none text before (omega arith)));
+          fewer = λ h l.
+              let shorter : length before < length text = omega arith in
+              let d = short-delivers shorter in
+              (y .0 ∙ ap bytesCode (sym (d .answered)), y .1 ∙ sym (d .left));
         }
 
 -- `citronhelm_sheet_length` AND `citronhelm_make_sheet`, whose number is 0 for `none`
@@ -89,8 +92,7 @@ module _ (f : Formula) (t : Trace) (fine : FormulaInRange f) (before after : Lis
   met-lends : (o : Outcome) (b : Bytes) → ((n : ℕ) → MeasuresOn o f t (Count n) → n ≤ 33567) → MeasuresOn o f t b → MakesOn o f t before after answer → Lends (bytesCode b) before after (makerCode answer)
   met-lends o (Count n) few m x = length-lends n o (few n m) m x
   met-lends (Refused told) (BytesRefused why) few m x = refused-lends told (ap bytesCode m) (ap makerCode (x .0), x .1)
-  met-lends Accepted (BytesRefused why) few (sheet s a made e) x = clash (cc)
-  met-lends Accepted (BytesRefused why) few (none s e) x = clash (cc)
+  met-lends Accepted (BytesRefused why) few m x = absurd (never-refused m)
 
 pub sheet-lends : (rule take before after : List ℕ) (r w : ℕ)
     → OnPair (parseRule rule) (parseTake take) (λ why. r ≡ refusalCode why) (λ f t. MeasuredAs f t r)

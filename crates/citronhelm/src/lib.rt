@@ -107,8 +107,8 @@ pub extern "C" fn citronhelm_normal_length(rule: &[u8], negated: u8) -> u64
     match outcome {
         Outcome::Refused(refusal) => answer_code::refusal_code(refusal),
         Outcome::Accepted => {
-            let asked = answer_code::sign_named(negated);
-            normal_length::measure_form(read.formula, asked) as u64
+            let sign = answer_code::sign_named(negated);
+            normal_length::measure_form(read.formula, sign) as u64
         }
     }
 }

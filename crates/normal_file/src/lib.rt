@@ -9,7 +9,7 @@ use tables::row::Formula;
 use writing::answer::Bytes;
 
 // The file of the normal form of a formula that is known to be in range, as one that was read is. It is made in an array of its own first,
-// since its length is known only when all is written.
+// since it is not measured before it is written.
 pub fn write_form(formula: Formula, sign: Sign, buf: &mut [u8]) -> Bytes
     requires { ⌜ InRange formula ⌝ }
     ensures delivers { λ r. ⌜ Delivers (output formula sign) (now (buf .entry)) (now (buf .exit)) r ⌝ }

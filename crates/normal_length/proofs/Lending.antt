@@ -22,8 +22,8 @@ use Rattle.normal_file.specs.Answer.{normalAnswer, normalLeft, output}
 use Rattle.writing.specs.Answer.{RefusedWith, tooShort, writtenAnswer}
 use Rattle.writing.specs.Lent.{overlaid}
 use Rattle.writing.specs.declared.answer.Bytes.the-variants.{Count, Refused as BytesRefused}
-use Rattle.writing.proofs.Room.{room-enough, room-exact, room-short, refused-short}
-use Rattle.writing.proofs.Texts.{overlaid-none}
+use Rattle.writing.proofs.Answers.{short-delivers}
+use Rattle.writing.proofs.Room.{room-enough, room-exact, refused-short}
 use Rattle.normal_length.specs.Answer.{lengthAnswer}
 
 module _ (f : Formula) (s : Sign) where
@@ -60,7 +60,10 @@ module _ (f : Formula) (s : Sign) where
 
     -- WITH FEWER it is refused with 10, and leaves the buffer alone
     pub fewer-refused : length buf < n → (normalAnswer f s buf ≡ BytesRefused tooShort) × (normalLeft f s buf ≡ buf)
-    fewer-refused h = let short : length buf < length out = omega (arith, size) in (writes ∙ room-short out buf short, leaves ∙ sym (overlaid-none out buf short))
+    fewer-refused h =
+        let short : length buf < length out = omega (arith, size) in
+        let d = short-delivers short in
+        (writes ∙ sym (d .answered), leaves ∙ sym (d .left))
 
     -- SO THE WRITER IS REFUSED WITH 10 EXACTLY WHERE IT IS LENT FEWER BYTES THAN THE LENGTH
     pub ten-exactly : RefusedWith 10 BytesRefused (normalAnswer f s buf) ↔ (length buf < n)

@@ -14,6 +14,7 @@ use Rattle.tables.specs.declared.row.Formula.{Formula}
 use Rattle.tables.specs.declared.row.NormalForm.{NormalForm}
 use Rattle.tables.specs.declared.trace.Activation.{Activation}
 use Rattle.tables.specs.declared.trace.Trace.{Trace}
+use Rattle.tables.proofs.Choices.{clash}
 use Rattle.rule_file.specs.Valid.{InRange as FormulaInRange}
 use Rattle.take_file.specs.Valid.{InRange as TraceInRange}
 use Rattle.sheet_file.specs.Written.{writtenSheet}
@@ -33,8 +34,13 @@ use Rattle.writing.specs.declared.answer.Bytes.the-variants.{Count, Refused as 
 use Rattle.sheet_length.specs.Answer.{Measured, Measured.sheet, Measured.none, MeasuresOn, Measures}
 
 -- the file of a sheet that is made has the length that its rows and cycles give
-made-size : (g : NormalForm) (t : Trace) (a : Activation) → g .rows ≤ 128 → t .cycles ≤ 256 → IsMade g t a → length (writtenSheet a) ≡ sheetLength (a .rows) (a .cycles)
+pub made-size : (g : NormalForm) (t : Trace) (a : Activation) → g .rows ≤ 128 → t .cycles ≤ 256 → IsMade g t a → length (writtenSheet a) ≡ sheetLength (a .rows) (a .cycles)
 made-size g t a rows cycles made = sheet-size a (made .places) (omega (arith, made .rows)) (omega (arith, made .cycles))
+
+-- a length that is measured is no refusal
+pub never-refused : {f : Formula} {t : Trace} {why : Refusal} → Measured f t (BytesRefused why) → ⊥
+never-refused (sheet s a made p) = clash (cc)
+never-refused (none s p) = clash (cc)
 
 -- THE CONTRACT FIXES THE ANSWER
 module _ (f : Formula) (t : Trace) (answer reply : Bytes) where

@@ -2,7 +2,7 @@
 -- Otherwise lending that many bytes is then never too short, and lending one fewer always is." Assumes nothing.
 use Prim.Native.Nat.{ℕ, _≤_, _<_}
 use mathlib.Core.Path.{_≡_, refl, sym, ap, _∙_}
-use mathlib.Core.Logic.{_↔_}
+use mathlib.Core.Logic.{_↔_, _⊎_, inl, inr}
 use mathlib.Core.Bool.{Bool, true, false}
 use mathlib.Core.List.{List}
 use native.Mathlib.Omega.{arith}
@@ -35,27 +35,25 @@ use Rattle.sheet_maker.specs.declared.MakerAnswer.the-variants.{Written, None, 
 use Rattle.sheet_maker.specs.Made.{IsMade}
 use Rattle.sheet_maker.specs.Answer.{answerOf, Answers, Answers.sheet, Answers.none, MakesOn, Makes}
 use Rattle.sheet_maker.proofs.Answers.{pair-fine}
+use Rattle.sheet_maker.proofs.Demand.{never-none}
 use Rattle.sheet_maker.proofs.Sheets.{made-unique}
 use Rattle.writing.specs.Answer.{RefusedWith, tooShort, writtenAnswer}
 use Rattle.writing.specs.Lent.{overlaid}
 use Rattle.writing.specs.declared.answer.Bytes.{Bytes}
 use Rattle.writing.specs.declared.answer.Bytes.the-variants.{Count, Refused as BytesRefused}
-use Rattle.writing.proofs.Room.{room-enough, room-exact, room-short, refused-short}
-use Rattle.writing.proofs.Texts.{overlaid-none}
-use Rattle.sheet_length.specs.Answer.{Measured, Measured.sheet, Measured.none, MeasuresOn, Measures}
+use Rattle.writing.proofs.Answers.{short-delivers}
+use Rattle.writing.proofs.Room.{room-enough, room-exact, refused-short}
+use Rattle.sheet_length.specs.Answer.{Measured.sheet, Measured.none, MeasuresOn, Measures}
+use Rattle.sheet_length.proofs.Answers.{never-refused}
 
 pub sheet-some : (a : Activation) → 0 < length (writtenSheet a)
 unfolding writtenSheet
 sheet-some a = omega arith
 
--- an answer is refused where writing is, and `none` nowhere there
+-- an answer is refused where writing is
 turned : {why : Refusal} (b : Bytes) → answerOf b ≡ MakerRefused why → b ≡ BytesRefused why
 turned (Count m) q = clash (cc)
 turned (BytesRefused told) q = cc
-
-never-none : (b : Bytes) → answerOf b ≡ None → ⊥
-never-none (Count m) q = clash (cc)
-never-none (BytesRefused told) q = clash (cc)
 
 module _ (f : Formula) (t : Trace) (before after : List ℕ) (answer : MakerAnswer) where
   -- what length service and sheet maker say of the same tables: of one sheet, or both of none
@@ -86,7 +84,8 @@ module _ (f : Formula) (t : Trace) (before after : List ℕ) (answer : MakerAnsw
   pub refused-there : (n : ℕ) → Both n → length before < n → (answer ≡ MakerRefused tooShort) × (after ≡ before)
   refused-there n (some-sheet a made e u w) h =
       let short : length before < length (writtenSheet a) = omega (arith, e) in
-      (u ∙ ap answerOf (room-short (writtenSheet a) before short), w ∙ sym (overlaid-none (writtenSheet a) before short))
+      let d = short-delivers short in
+      (u ∙ ap answerOf (sym (d .answered)), w ∙ sym (d .left))
   refused-there n (no-sheet e u w) h = absurd (omega arith)
 
   short-there : {why : Refusal} (n : ℕ) → Both n → answer ≡ MakerRefused why → length before < n
@@ -126,12 +125,8 @@ module _ (f : Formula) (t : Trace) (before after : List ℕ) (answer : MakerAnsw
   pub refused-alike : (why : Refusal) → Measures f t (BytesRefused why) → Makes f t before after answer → (answer ≡ MakerRefused why) × (after ≡ before)
   refused-alike why measures makes = by (pairOutcome Either f t) measures makes
     where
-      measured : {b : Bytes} → Measured f t b → (n : ℕ) × (b ≡ Count n)
-      measured (sheet s a made p) = (length (writtenSheet a), p)
-      measured (none s p) = (0, p)
-
       by : (o : Outcome) → MeasuresOn o f t (BytesRefused why) → MakesOn o f t before after answer → (answer ≡ MakerRefused why) × (after ≡ before)
-      by Accepted m x = let q = measured m .1 in clash (cc)
+      by Accepted m x = absurd (never-refused m)
       by (Refused told) m x = let same : told ≡ why = cc in (x .0 ∙ ap MakerRefused same, x .1)
 
   -- and a refusal of the sheet maker with another number than 10 is the length service's
@@ -147,20 +142,17 @@ module _ (f : Formula) (t : Trace) (before after : List ℕ) (answer : MakerAnsw
       by Accepted x = absurd (ten x)
       by (Refused told) x = let same : MakerRefused told ≡ MakerRefused why = sym (x .0) ∙ given in cc
 
--- NO REFUSAL OF THE LENGTH SERVICE IS 10: it is told with file 1 or 2, or is 7
-pub never-ten : (f : Formula) (t : Trace) (why : Refusal) → Measures f t (BytesRefused why) → ¬ (why ≡ tooShort)
-never-ten f t why measures short = by (parseRule (writtenRule f)) (parseTake (writtenTake t)) (eqb (f .signals) (t .signals)) measures
+-- A REFUSAL OF THE LENGTH SERVICE is the rule's, the take's, or 7
+pub refused-by : (f : Formula) (t : Trace) (why : Refusal) → Measures f t (BytesRefused why) → (why .file ≡ 1) ⊎ ((why .file ≡ 2) ⊎ (number (why .reason) ≡ 7))
+refused-by f t why = by (parseRule (writtenRule f)) (parseTake (writtenTake t)) (eqb (f .signals) (t .signals))
   where
-    told : {r : Refusal} → BytesRefused why ≡ BytesRefused r → r ≡ tooShort
-    told {r} q = let same : why ≡ r = cc in sym same ∙ short
-
-    measured : Measured f t (BytesRefused why) → ⊥
-    measured (sheet s a made p) = clash (cc)
-    measured (none s p) = clash (cc)
+    told : {r : Refusal} → BytesRefused why ≡ BytesRefused r → why ≡ r
+    told q = cc
 
     by : (p : Result Formula) (q : Result Trace) (b : Bool)
-        → MeasuresOn (andThen (andThen (outcomeOf 1 p) (outcomeOf 2 q)) (andThen (pick b Accepted (callRefused (numbered 7))) Accepted)) f t (BytesRefused why) → ⊥
-    by (refused e n) q b m = clash (sym (ap (λ (r : Refusal). r .file) (told m)))
-    by (accepted g) (refused e n) b m = let z : _≡_ {A = ℕ} 2 0 = ap (λ (r : Refusal). r .file) (told m) in absurd (omega arith)
-    by (accepted g) (accepted u) true m = measured m
-    by (accepted g) (accepted u) false m = let z : _≡_ {A = ℕ} 7 10 = ap (λ (r : Refusal). number (r .reason)) (told m) in absurd (omega arith)
+        → MeasuresOn (andThen (andThen (outcomeOf 1 p) (outcomeOf 2 q)) (andThen (pick b Accepted (callRefused (numbered 7))) Accepted)) f t (BytesRefused why)
+        → (why .file ≡ 1) ⊎ ((why .file ≡ 2) ⊎ (number (why .reason) ≡ 7))
+    by (refused e n) q b m = inl (ap (λ (r : Refusal). r .file) (told m))
+    by (accepted g) (refused e n) b m = inr (inl (ap (λ (r : Refusal). r .file) (told m)))
+    by (accepted g) (accepted u) true m = absurd (never-refused m)
+    by (accepted g) (accepted u) false m = inr (inr (ap (λ (r : Refusal). number (r .reason)) (told m)))

@@ -18,7 +18,8 @@ use Rattle.writing.specs.declared.answer.Bytes.the-variants.{Count, Refused as 
 -- "exactly the bytes .. of the sheet for a rule and take": how many the file of the sheet made has; "Where the sheet's answer is `none`,
 -- its length is 0"
 pub data Measured (f : Formula) (t : Trace) (answer : Bytes) : Type 0 where
-  sheet : Satisfied f t → (a : Activation) → IsMade (normalForm f Plain) t a → answer ≡ Count (length (writtenSheet a)) → Measured f t answer
+  sheet : Satisfied f t → (a : Activation) → IsMade (normalForm f Plain) t a
+      → answer ≡ Count (length (writtenSheet a)) → Measured f t answer
   none : ¬ Satisfied f t → answer ≡ Count 0 → Measured f t answer
 
 -- by the outcome of the checks, which are the sheet maker's

@@ -156,7 +156,7 @@ IsNone (Written n) = ⊥
 IsNone None = Unit {0}
 IsNone (MakerRefused why) = ⊥
 
-never-none : (b : Bytes) → answerOf b ≡ None → ⊥
+pub never-none : (b : Bytes) → answerOf b ≡ None → ⊥
 unfolding IsNone
 never-none (Count n) e = subst⁻¹ IsNone e tt
 never-none (BytesRefused why) e = subst⁻¹ IsNone e tt

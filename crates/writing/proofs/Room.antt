@@ -1,31 +1,29 @@
--- What a writer answers, by how much room it is lent. Assumes nothing.
+-- What a writer answers, by how much room it is lent (of too little: `short-delivers`). Assumes nothing.
 use Prim.Native.Nat.{ℕ, _≤_, _<_}
-use mathlib.Core.Path.{_≡_, refl}
+use mathlib.Core.Path.{_≡_, refl, sym}
 use mathlib.Core.List.{List, append-nil}
 use native.Mathlib.Decide.{decLt}
 use native.Mathlib.Omega.{arith}
 use lib.ListN.{length}
 use lib.Seq.{drop-length}
-use borrow.Author.Tests.{le-leb, lt-leb}
+use borrow.Author.Tests.{le-leb}
 use Rattle.tables.specs.declared.refusal.Refusal.{Refusal}
 use Rattle.tables.proofs.Choices.{clash, know}
 use Rattle.writing.specs.declared.answer.Bytes.the-variants.{Count, Refused}
 use Rattle.writing.specs.Answer.{tooShort, writtenAnswer}
 use Rattle.writing.specs.Lent.{overlaid}
+use Rattle.writing.proofs.Answers.{short-delivers}
 
 module _ (out buf : List ℕ) where
   pub room-enough : length out ≤ length buf → writtenAnswer out buf ≡ Count (length out)
   room-enough h = rw (le-leb (length out) (length buf) h) refl
-
-  pub room-short : length buf < length out → writtenAnswer out buf ≡ Refused tooShort
-  room-short h = rw (lt-leb (length out) (length buf) h) refl
 
   -- a refusal is 10, and given only where the buffer is shorter
   pub refused-short : {why : Refusal} → writtenAnswer out buf ≡ Refused why → (why ≡ tooShort) × (length buf < length out)
   refused-short {why} e = by (decLt (length buf) (length out))
     where
       by : Dec (length buf < length out) → (why ≡ tooShort) × (length buf < length out)
-      by (yes h) = let q = know e (room-short h) in (cc, h)
+      by (yes h) = let q = know e (sym (short-delivers {text = out} {before = buf} h .answered)) in (cc, h)
       by (no h) = let q = know e (room-enough (omega arith)) in clash (cc)
 
   -- a buffer of the output's length holds the output, and nothing else
@@ -38,5 +36,5 @@ module _ (out buf : List ℕ) where
   written-length {n} e = by (decLt (length buf) (length out))
     where
       by : Dec (length buf < length out) → n ≡ length out
-      by (yes h) = let q = know e (room-short h) in clash (cc)
+      by (yes h) = let q = know e (sym (short-delivers {text = out} {before = buf} h .answered)) in clash (cc)
       by (no h) = let q = know e (room-enough (omega arith)) in cc

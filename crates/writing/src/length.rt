@@ -1,4 +1,4 @@
-// How long a written number is: for writers that know their length before they write.
+// How long a written number is: for writers that know their length before they write, and for lengths without writing.
 ghost use mathlib.Core.Path.{_≡_};
 ghost use Prim.Native.Nat.{_≤_, _<_};
 ghost use lib.ListN.{length};

@@ -11,8 +11,8 @@
 //! `c0=`, `z1=`) may not, and the digits of `c` and `z` lines are no numbers. What is written has no leading zeros.
 //!
 //! The services have no state and need no memory but the caller's; the two functions whose names end in `_vec` allocate, no more than they
-//! return. How long an output has to be is said beforehand by [`normal_length`] and [`sheet_length`]. [`Monitors`] keeps what [`step`]
-//! needs from one cycle to the next, and [`Run`] judges a take while it is recorded.
+//! return. How long an output has to be is said beforehand by [`normal_length`] for [`normal`] and by [`sheet_length`] for [`make_sheet`].
+//! [`Monitors`] keeps what [`step`] needs from one cycle to the next, and [`Run`] judges a take while it is recorded.
 //!
 //! The example below, which the other examples use as well, says: always, when signal 1 is on, sooner or later signal 2 is.
 //!

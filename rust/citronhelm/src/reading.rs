@@ -66,7 +66,7 @@ pub fn rows(rule: &[u8]) -> Result<usize, Refusal> {
 }
 
 /// The exact length of the normal form of a rule, or of the negated rule, as a file. An output of that length does for [`normal`], and one
-/// that is a byte shorter does not.
+/// that is a byte shorter does not. Refused as [`normal`] is, but for an output that is too short.
 ///
 /// ```
 /// use citronhelm::{normal, normal_length, Reason};

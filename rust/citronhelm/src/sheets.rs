@@ -8,7 +8,7 @@ use crate::refusal::{answered, counted, Refusal};
 pub const MOST_SHEET: usize = 33567;
 
 /// The exact length of the activator sheet of a rule and a take as a file; 0 where there is none. An output of that length does for
-/// [`make_sheet`] in either case, and one that is a byte shorter does not.
+/// [`make_sheet`] in either case, and one that is a byte shorter does not. Refused as [`make_sheet`] is, but for an output that is too short.
 ///
 /// ```
 /// use citronhelm::{make_sheet, sheet_length, Reason};
