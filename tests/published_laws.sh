@@ -5,9 +5,9 @@
 # the crate padding: nothing else is proved from it.
 set -euo pipefail
 cd "$(dirname "$0")/.."
-reading='text|rule_row|rule_file|take_file|sheet_file|padding'
+reading='text|rule_row|rule_file|take_file|sheet_file|circuit_line|circuit_file|padding'
 others=$(grep -rnE "Rattle·($reading)\.proofs\." crates --include='*.antt' --include='*.rt' |
-    grep -vE "^crates/($reading|rule_and_take)/|\.proofs\.(Laws|Rules|Takes|Sheets)\." || true)
+    grep -vE "^crates/($reading|rule_and_take)/|\.proofs\.(Laws|Rules|Takes|Sheets|Circuits)\." || true)
 if [ -n "$others" ]; then
     printf '%s\n' "$others" "tests/published_laws.sh: these cite how a reader is proved" >&2
     exit 1

@@ -27,9 +27,11 @@ use Rattle.normal_form.specs.declared.sign.Sign.the-variants.{Plain}
 use Rattle.normal_form.specs.Numbering.{normalForm}
 use Rattle.writing.specs.declared.answer.Bytes.{Bytes}
 use Rattle.writing.specs.declared.answer.Bytes.the-variants.{Count, Refused as BytesRefused}
+use Rattle.step.specs.Fitting.{Fitting}
 use Rattle.step.specs.Step.{digitAt, digitOf, rowOutput, formOutcome, formOutput, rowsIn, stepOutcome, stepAnswer}
 use Rattle.step.specs.Calls.{Call, Kept.fresh, Kept.wrote, given, onAnswer, kept, handed, answered, left}
 use Rattle.step.proofs.Outputs.{failedDigit, acceptDigit, pendingDigit}
+use Rattle.step.proofs.Checks.{accepted-fits}
 use Rattle.step.proofs.Answers.{answered-answer, answered-left}
 
 -- a digit is 1 exactly where it stands for true
@@ -115,7 +117,7 @@ module _ (f : Formula) (calls : ℕ → Call) (i : ℕ) where
   abbrev outcome : Outcome
   outcome = stepOutcome f p a s (calls i .buffer)
 
-  accepts : answered f calls i ≡ true → outcome ≡ Accepted
+  pub accepts : answered f calls i ≡ true → outcome ≡ Accepted
   accepts e = by outcome e
     where
       by : (o : Outcome) → onAnswer (onOutcome o BytesRefused (Count (3 * g .rows))) true false ≡ true → o ≡ Accepted
@@ -126,11 +128,16 @@ module _ (f : Formula) (calls : ℕ → Call) (i : ℕ) where
   pub answered-range : answered f calls i ≡ true → InRange f
   answered-range e = checked f (both-accept (outcomeOf 1 (parseRule (writtenRule f))) (formOutcome g p a s (length (calls i .buffer))) (accepts e) .0)
 
+  -- and where its digits are those of the rule's normal form
+  pub answered-fits : answered f calls i ≡ true → Fitting g p a s (length (calls i .buffer))
+  answered-fits e = accepted-fits g p a s (length (calls i .buffer)) (both-accept (outcomeOf 1 (parseRule (writtenRule f))) (formOutcome g p a s (length (calls i .buffer))) (accepts e) .1)
+
   module _ (e : answered f calls i ≡ true) where
-    left-is : left f calls i ≡ formOutput g p a s ++ drop (3 * g .rows) (calls i .buffer)
+    -- WHAT AN ANSWERED CALL LEAVES, AND WHAT IS KEPT OF IT
+    pub left-is : left f calls i ≡ formOutput g p a s ++ drop (3 * g .rows) (calls i .buffer)
     left-is = answered-left f p a s (calls i .buffer) (accepts e)
 
-    kept-is : kept f calls (suc i) ≡ wrote (tabulate (g .rows) (pendingDigit g p a s))
+    pub kept-is : kept f calls (suc i) ≡ wrote (tabulate (g .rows) (pendingDigit g p a s))
     unfolding kept
     kept-is =
         rw (answered-answer f p a s (calls i .buffer) (accepts e))

@@ -318,6 +318,15 @@ unfolding digitsOf
 digits-inv s n (yes l) e = clash (cc (rw (lt-ltb 5 (length s) l) at e))
 digits-inv s n (no g) e = let l : length s ≤ 5 = omega arith in (l, rw (le-ltb 5 (length s) l) at e)
 
+-- A NUMBER HAS FIVE DIGITS AT MOST
+pub number-small : (s : List ℕ) (n : ℕ) → numberOf s ≡ Is n → n < 100000
+number-small s n e =
+    let w = digits-inv s n (decLt 5 (length s)) (padded-digits s n (number-padded s n e)) in
+    let b : n < 10 ^ (length s + 0) = small-value 0 0 s n (omega arith) (w .1) in
+    let m : length s + 0 ≤ 5 = omega (arith, w .0) in
+    let p : 10 ^ (length s + 0) ≤ 10 ^ 5 = pow-le-pow-right (omega arith) m in
+    omega arith
+
 pub number-read : (s : List ℕ) (n : ℕ) → numberOf s ≡ Is n → s ≡ decimal n
 unfolding numberOf decimal
 number-read [] n e = clash (cc)

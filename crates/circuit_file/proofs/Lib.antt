@@ -1,0 +1,13 @@
+pub mod Headers
+pub mod Flat
+pub mod Reading
+pub mod Spaced
+pub mod Possible
+pub mod News
+pub mod Blocks
+pub mod Shapes
+pub mod Formed
+pub mod FirstLine
+pub mod Listings
+pub mod Circuits
+pub mod Refusals

@@ -1,0 +1,4 @@
+pub mod NumberLists
+pub mod NumberLines
+pub mod Sections
+pub mod WrittenNumbers

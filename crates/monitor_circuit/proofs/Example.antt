@@ -1,0 +1,72 @@
+-- Rule A's circuit as its file, computed (docs/CIRCUIT.md has it line by line). Assumes nothing.
+use Prim.Native.Nat.{ℕ}
+use Prim.Native.String.{String}
+use mathlib.Core.Path.{_≡_, refl, ap, _∙_}
+use mathlib.Core.List.{List, [], _∷_, _++_}
+use Rattle.tables.specs.Bytes.{bytes}
+use Rattle.tables.specs.Place.{tabulateFrom, placed}
+use Rattle.tables.specs.Kind.{kinds, kindAt, dualOf}
+use Rattle.tables.specs.declared.row.NormalForm.{NormalForm}
+use Rattle.tables.specs.declared.row.SignalKind.the-variants.{Sig, Nsig}
+use Rattle.tables.specs.declared.row.UnaryKind.the-variants.{Always, Ever}
+use Rattle.tables.specs.declared.row.BinaryKind.the-variants.{Or}
+use Rattle.tables.specs.declared.row.Row.the-variants.{Signal, Unary, Binary}
+use Rattle.text.specs.Written.{decimalIn, decimal}
+use Rattle.rule_file.specs.Rule.{inPlace, unused}
+use Rattle.circuit.specs.Circuit.{Circuit, Latch, Gate}
+use Rattle.circuit_file.specs.Written.{spaced, writtenLines, writtenCircuit}
+use Rattle.normal_form.specs.declared.sign.Sign.the-variants.{Plain}
+use Rattle.normal_form.specs.Reach.{markedDown, reach}
+use Rattle.normal_form.specs.Numbering.{listing, normalListing, normalForm}
+use Rattle.step.proofs.Witness.{ruleA}
+use Rattle.monitor_circuit.specs.Monitors.{circuitOf}
+use Rattle.monitor_circuit.specs.Steps.{ruleCircuit}
+
+-- its normal form: `nsig 1`, `sig 2`, `ever 2`, `or 1 3`, `always 4`
+abbrev formA : NormalForm
+formA = record { signals = 2; rows = 5; places = placed 128 inPlace unused (Signal Nsig 1 ∷ Signal Sig 2 ∷ Unary Ever 2 ∷ Binary Or 1 3 ∷ Unary Always 4 ∷ []) }
+
+form-is : normalForm ruleA Plain ≡ formA
+unfolding markedDown reach listing normalListing normalForm kinds kindAt dualOf tabulateFrom
+form-is = refl
+
+abbrev latch : ℕ → ℕ → Latch
+latch l n = record { current = l; next = n }
+
+abbrev gate : ℕ → ℕ → ℕ → Gate
+gate l a b = record { lhs = l; rhs0 = a; rhs1 = b }
+
+abbrev circuitA : Circuit
+circuitA =
+    record {
+      inputs = 2 ∷ 4 ∷ 6 ∷ 8 ∷ 10 ∷ 12 ∷ 14 ∷ [];
+      latches = latch 16 0 ∷ latch 18 0 ∷ latch 20 40 ∷ latch 22 0 ∷ latch 24 35 ∷ [];
+      outputs = 26 ∷ 28 ∷ 0 ∷ 42 ∷ 44 ∷ 1 ∷ 1 ∷ 41 ∷ 1 ∷ 1 ∷ 0 ∷ 0 ∷ 40 ∷ 0 ∷ 35 ∷ [];
+      gates =
+          gate 26 6 2 ∷ gate 28 8 5 ∷ gate 30 11 21 ∷ gate 32 7 11 ∷ gate 34 15 25
+          ∷ gate 36 0 0 ∷ gate 38 0 0 ∷ gate 40 31 9 ∷ gate 42 12 32 ∷ gate 44 35 13
+          ∷ gate 46 0 0 ∷ gate 48 0 0 ∷ gate 50 0 0 ∷ gate 52 0 0 ∷ gate 54 0 0 ∷ [];
+    }
+
+circuit-is : circuitOf formA ≡ circuitA
+unfolding tabulateFrom
+circuit-is = refl
+
+-- the bytes of lines, each with its line feed (byte 10)
+abbrev fileBytes : List String → List ℕ
+fileBytes [] = []
+fileBytes (l ∷ ls) = bytes l ++ (10 ∷ fileBytes ls)
+
+abbrev pub linesA : List String
+linesA =
+    "aag 27 7 5 15 15" ∷ "2" ∷ "4" ∷ "6" ∷ "8" ∷ "10" ∷ "12" ∷ "14" ∷ "16 0" ∷ "18 0" ∷ "20 40" ∷ "22 0" ∷ "24 35" ∷ "26" ∷
+    "28" ∷ "0" ∷ "42" ∷ "44" ∷ "1" ∷ "1" ∷ "41" ∷ "1" ∷ "1" ∷ "0" ∷ "0" ∷ "40" ∷ "0" ∷ "35" ∷ "26 6 2" ∷ "28 8 5" ∷
+    "30 11 21" ∷ "32 7 11" ∷ "34 15 25" ∷ "36 0 0" ∷ "38 0 0" ∷ "40 31 9" ∷ "42 12 32" ∷ "44 35 13" ∷ "46 0 0" ∷ "48 0 0" ∷
+    "50 0 0" ∷ "52 0 0" ∷ "54 0 0" ∷ []
+
+written : writtenCircuit circuitA ≡ fileBytes linesA
+unfolding writtenCircuit writtenLines spaced decimal decimalIn
+written = refl
+
+pub rule-a-file : writtenCircuit (ruleCircuit ruleA) ≡ fileBytes linesA
+rule-a-file = ap (λ g. writtenCircuit (circuitOf g)) form-is ∙ (ap writtenCircuit circuit-is ∙ written)

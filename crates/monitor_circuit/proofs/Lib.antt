@@ -1,0 +1,10 @@
+pub mod Rows
+pub mod Values
+pub mod OneCycle
+pub mod Calls
+pub mod Inputs
+pub mod WellFormedRows
+pub mod WellFormed
+pub mod Equivalence
+pub mod Example
+pub mod ReadBack

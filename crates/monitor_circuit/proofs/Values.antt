@@ -1,0 +1,98 @@
+-- The values of the monitors' circuit, by row. Assumes nothing.
+use Prim.Native.Nat.{ℕ, suc, _+_, _<_}
+use mathlib.Core.Path.{_≡_, sym, ap, _∙_}
+use mathlib.Core.Bool.{Bool, true, false}
+use mathlib.Core.List.{List, _++_}
+use native.Mathlib.Omega.{arith}
+use lib.ListN.{length, getD, length-append, List·getD-append}
+use lib.Seq.{getD-append-add}
+use Rattle.tables.specs.Place.{tabulate}
+use Rattle.tables.specs.declared.row.NormalForm.{NormalForm}
+use Rattle.tables.proofs.Places.{length-tabulate, getD-tabulate}
+use Rattle.circuit.specs.Circuit.{Latch, Gate}
+use Rattle.circuit.specs.Valuation.{Valuation, IsValuation}
+use Rattle.monitor_circuit.specs.Monitors.{signalLiteral, activatorLiteral, latchLiteral, gateLiteral, wiringOf, latchOf, gateOf, circuitOf}
+use Rattle.monitor_circuit.proofs.Rows.{Gates}
+
+-- ---- lists in stripes, by their places
+module _ {A : Type 0} (m : ℕ) (x : ℕ → A) (ys : List A) (d : A) (k : ℕ) where
+  pub in-first : k < m → getD (tabulate m x ++ ys) k d ≡ x k
+  in-first h = List·getD-append (tabulate m x) ys d k (rw length-tabulate h) ∙ getD-tabulate m x k d h
+
+  pub behind-first : getD (tabulate m x ++ ys) (m + k) d ≡ getD ys k d
+  behind-first = ap (λ n. getD (tabulate m x ++ ys) (n + k) d) (sym (length-tabulate m 0 x)) ∙ getD-append-add (tabulate m x) ys k d
+
+pub stripes-size : {A : Type 0} (m n : ℕ) (x y : ℕ → A) → length (tabulate m x ++ tabulate n y) ≡ m + n
+stripes-size m n x y = length-append (tabulate m x) (tabulate n y) ∙ rw (length-tabulate m 0 x, length-tabulate n 0 y)
+
+pub three-size : {A : Type 0} (n : ℕ) (x y z : ℕ → A) → length (tabulate n x ++ (tabulate n y ++ tabulate n z)) ≡ n + (n + n)
+three-size n x y z = length-append (tabulate n x) (tabulate n y ++ tabulate n z) ∙ rw (length-tabulate n 0 x, stripes-size n n y z)
+
+-- ---- what each literal is worth
+module _ (g : NormalForm) {inputs latches : ℕ → Bool} {v : Valuation} (values : IsValuation (circuitOf g) inputs latches v) where
+  abbrev n : ℕ
+  n = g .rows
+
+  pub false-off : v 0 ≡ false
+  false-off = values .constant
+
+  pub true-on : v 1 ≡ true
+  true-on = values .negated 0 ∙ rw false-off
+
+  abbrev activators : List ℕ
+  activators = tabulate n (λ i. activatorLiteral g (suc i))
+
+  pub signal-value : (i : ℕ) → i < g .signals → v (signalLiteral g (suc i)) ≡ inputs i
+  signal-value i h =
+      sym (ap v (in-first (g .signals) (λ i. signalLiteral g (suc i)) activators 0 i h))
+      ∙ values .inputs-given i (rw stripes-size (omega arith))
+
+  module _ (k : ℕ) (h : k < g .rows) where
+    pub activator-value : v (activatorLiteral g (suc k)) ≡ inputs (g .signals + k)
+    activator-value =
+        sym (ap v (behind-first (g .signals) (λ i. signalLiteral g (suc i)) activators 0 k ∙ getD-tabulate n (λ i. activatorLiteral g (suc i)) k 0 h))
+        ∙ values .inputs-given (g .signals + k) (rw stripes-size (omega arith))
+
+    abbrev row : ℕ
+    row = suc k
+
+    pub latch-value : v (latchLiteral g row) ≡ latches k
+    latch-value =
+        sym (ap (λ (q : Latch). v (q .current)) (getD-tabulate n (λ i. latchOf g (suc i)) k (record { current = 0; next = 0 }) h))
+        ∙ values .latches-given k (rw length-tabulate h)
+
+    -- the gates in their stripes
+    abbrev none : Gate
+    none = record { lhs = 0; rhs0 = 0; rhs1 = 0 }
+
+    abbrev firsts : ℕ → Gate
+    firsts i = gateOf g 0 (λ w. w .first) (suc i)
+
+    abbrev seconds : ℕ → Gate
+    seconds i = gateOf g 1 (λ w. w .second) (suc i)
+
+    abbrev thirds : ℕ → Gate
+    thirds i = gateOf g 2 (λ w. w .third) (suc i)
+
+    gates-size : length (circuitOf g .gates) ≡ n + (n + n)
+    gates-size = three-size n firsts seconds thirds
+
+    first-at : getD (circuitOf g .gates) k none ≡ firsts k
+    first-at = in-first n firsts (tabulate n seconds ++ tabulate n thirds) none k h
+
+    second-at : getD (circuitOf g .gates) (n + k) none ≡ seconds k
+    second-at = behind-first n firsts (tabulate n seconds ++ tabulate n thirds) none k ∙ in-first n seconds (tabulate n thirds) none k h
+
+    third-at : getD (circuitOf g .gates) (n + (n + k)) none ≡ thirds k
+    third-at =
+        behind-first n firsts (tabulate n seconds ++ tabulate n thirds) none (n + k)
+        ∙ (behind-first n seconds (tabulate n thirds) none k ∙ getD-tabulate n thirds k none h)
+
+    -- THE GATES OF A ROW HOLD
+    pub gates-value : Gates v (gateLiteral g 0 row) (gateLiteral g 1 row) (gateLiteral g 2 row) (wiringOf g row)
+    gates-value =
+        record {
+          first-and = rw first-at at (values .gates-and k (omega (arith, gates-size)));
+          second-and = rw second-at at (values .gates-and (n + k) (omega (arith, gates-size)));
+          third-and = rw third-at at (values .gates-and (n + (n + k)) (omega (arith, gates-size)));
+        }

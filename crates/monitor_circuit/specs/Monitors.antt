@@ -1,0 +1,54 @@
+-- The circuit of a normal form's monitors (02, 4); docs/CIRCUIT.md has the scheme and an example. Assumes nothing.
+use Prim.Native.Nat.{ℕ, suc, _+_, _*_}
+use mathlib.Core.List.{List, _++_}
+use Rattle.tables.specs.Place.{tabulate}
+use Rattle.tables.specs.declared.row.NormalForm.{NormalForm}
+use Rattle.meaning.specs.Satisfaction.{tableOf}
+use Rattle.circuit.specs.Circuit.{Circuit, Latch, Gate}
+use Rattle.monitor_circuit.specs.Wiring.{Operands, Wiring, rowWiring}
+
+module _ (g : NormalForm) where
+  -- the variables in their order, signals and rows counting from 1: "inputs are the signals, then the activators by row; one latch a
+  -- row"; then the first gates of all rows, the second, the third
+  abbrev pub signalLiteral : ℕ → ℕ
+  signalLiteral s = 2 * s
+
+  abbrev pub activatorLiteral : ℕ → ℕ
+  activatorLiteral k = 2 * (g .signals + k)
+
+  abbrev pub latchLiteral : ℕ → ℕ
+  latchLiteral k = 2 * (g .signals + g .rows + k)
+
+  abbrev pub latchCount : ℕ
+  latchCount = g .rows
+
+  -- gate j of row k, j from 0 to 2
+  abbrev pub gateLiteral : ℕ → ℕ → ℕ
+  gateLiteral j k = 2 * (g .signals + g .rows + latchCount + (j * g .rows + k))
+
+  -- the gates of row k
+  abbrev pub wiringOf : ℕ → Wiring
+  wiringOf k =
+      rowWiring (activatorLiteral k) (latchLiteral k) (gateLiteral 0 k) (gateLiteral 1 k) (gateLiteral 2 k)
+      signalLiteral activatorLiteral (tableOf (g .places) k)
+
+  -- something of each row, in their order
+  abbrev pub byRow : {A : Type 0} → (ℕ → A) → List A
+  byRow x = tabulate (g .rows) (λ i. x (suc i))
+
+  abbrev pub latchOf : ℕ → Latch
+  latchOf k = record { current = latchLiteral k; next = wiringOf k .pending }
+
+  abbrev pub gateOf : ℕ → (Wiring → Operands) → ℕ → Gate
+  gateOf j operands k =
+      record { lhs = gateLiteral j k; rhs0 = operands (wiringOf k) .left; rhs1 = operands (wiringOf k) .right }
+
+  -- "outputs are failed, then accept, then pending, each by row"
+  abbrev pub circuitOf : Circuit
+  circuitOf =
+      record {
+        inputs = tabulate (g .signals) (λ i. signalLiteral (suc i)) ++ byRow activatorLiteral;
+        latches = byRow latchOf;
+        outputs = byRow (λ k. wiringOf k .failed) ++ (byRow (λ k. wiringOf k .accept) ++ byRow (λ k. wiringOf k .pending));
+        gates = byRow (gateOf 0 (λ w. w .first)) ++ (byRow (gateOf 1 (λ w. w .second)) ++ byRow (gateOf 2 (λ w. w .third)));
+      }
