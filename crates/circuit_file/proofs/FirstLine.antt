@@ -1,4 +1,5 @@
 -- The first line of a circuit file, `aag M I L O A`, and its written form. Assumes nothing.
+use mathlib.Core.Bool.{true}
 use mathlib.Core.Path.{_≡_, refl, sym, ap, _∙_, subst}
 use mathlib.Core.List.{List, [], _∷_, _++_}
 use Prim.Native.Nat.{ℕ, _+_}
@@ -42,7 +43,8 @@ header-free xs = free-append 10 (bytes "aag ") (spaced xs) (free 10 (bytes "aag 
 pub header-written : (h : Header) → Sums h → EachSmall (numbersOf h) → headerForm (headerText (numbersOf h)) ≡ good h
 unfolding headerForm
 header-written h s small =
-    rw (same-refl (bytes "aag "), spaced-good 5 (numbersOf h) (omega arith) refl small, eq-eqb (h .maximum) (h .inputs + h .latches + h .gates) s)
+    let e : sumsUp h ≡ true = eq-eqb (h .maximum) (h .inputs + h .latches + h .gates) s in
+    rw (same-refl (bytes "aag "), spaced-good 5 (numbersOf h) (omega arith) refl small, e)
 
 -- ONLY WHAT IS WRITTEN IS READ
 five-own : (xs : List ℕ) → length xs ≡ 5 → numbersOf (headerFrom xs) ≡ xs

@@ -8,7 +8,7 @@ use Rattle.tables.specs.declared.refusal.Reason.{Reason}
 use Rattle.tables.specs.declared.refusal.Reason.the-variants.{WrongForm}
 use Rattle.tables.proofs.Choices.{clash}
 use Rattle.text.specs.Search.{firstOf}
-use Rattle.text.specs.Number.{numberOf}
+use Rattle.text.specs.Number.{numberOf, onNumber}
 use Rattle.text.specs.Result.{Parsed, Next, Result, onParsed, onLine}
 use Rattle.text.specs.Result.Parsed.{good, bad}
 use Rattle.text.specs.Result.Result.{refused}
@@ -72,7 +72,7 @@ plain-wrong {A} form only rest e = each-found P (firstOf 10 rest) (λ q. cc) (λ
 -- the last number, and one before others
 pub numbers-last : (x : ℕ) → x < 100000 → numberList 1 (decimal x) ≡ good (x ∷ [])
 unfolding numberList
-numbers-last x h = rw (number-written x h)
+numbers-last x h = ap (λ n. onNumber n (bad WrongForm) (λ y. good (y ∷ []))) (number-written x h)
 
 pub numbers-more : (more x : ℕ) (t xs : List ℕ) → x < 100000 → numberList (suc more) t ≡ good xs → numberList (suc (suc more)) (decimal x ++ (32 ∷ t)) ≡ good (x ∷ xs)
 unfolding numberList

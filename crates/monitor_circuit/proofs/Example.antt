@@ -19,7 +19,7 @@ use Rattle.normal_form.specs.declared.sign.Sign.the-variants.{Plain}
 use Rattle.normal_form.specs.Reach.{markedDown, reach}
 use Rattle.normal_form.specs.Numbering.{listing, normalListing, normalForm}
 use Rattle.step.proofs.Witness.{ruleA}
-use Rattle.monitor_circuit.specs.Monitors.{circuitOf}
+use Rattle.monitor_circuit.specs.Monitors.{gatesFrom, circuitOf}
 use Rattle.monitor_circuit.specs.Steps.{ruleCircuit}
 
 -- its normal form: `nsig 1`, `sig 2`, `ever 2`, `or 1 3`, `always 4`
@@ -40,16 +40,18 @@ abbrev circuitA : Circuit
 circuitA =
     record {
       inputs = 2 ∷ 4 ∷ 6 ∷ 8 ∷ 10 ∷ 12 ∷ 14 ∷ [];
-      latches = latch 16 0 ∷ latch 18 0 ∷ latch 20 40 ∷ latch 22 0 ∷ latch 24 35 ∷ [];
-      outputs = 26 ∷ 28 ∷ 0 ∷ 42 ∷ 44 ∷ 1 ∷ 1 ∷ 41 ∷ 1 ∷ 1 ∷ 0 ∷ 0 ∷ 40 ∷ 0 ∷ 35 ∷ [];
+      latches = latch 16 0 ∷ latch 18 0 ∷ latch 20 40 ∷ latch 22 0 ∷ latch 24 51 ∷ [];
+      outputs = 26 ∷ 32 ∷ 0 ∷ 46 ∷ 52 ∷ 1 ∷ 1 ∷ 41 ∷ 1 ∷ 1 ∷ 0 ∷ 0 ∷ 40 ∷ 0 ∷ 51 ∷ [];
       gates =
-          gate 26 6 2 ∷ gate 28 8 5 ∷ gate 30 11 21 ∷ gate 32 7 11 ∷ gate 34 15 25
-          ∷ gate 36 0 0 ∷ gate 38 0 0 ∷ gate 40 31 9 ∷ gate 42 12 32 ∷ gate 44 35 13
-          ∷ gate 46 0 0 ∷ gate 48 0 0 ∷ gate 50 0 0 ∷ gate 52 0 0 ∷ gate 54 0 0 ∷ [];
+          gate 26 6 2 ∷ gate 28 0 0 ∷ gate 30 0 0
+          ∷ gate 32 8 5 ∷ gate 34 0 0 ∷ gate 36 0 0
+          ∷ gate 38 11 21 ∷ gate 40 39 9 ∷ gate 42 0 0
+          ∷ gate 44 7 11 ∷ gate 46 12 44 ∷ gate 48 0 0
+          ∷ gate 50 15 25 ∷ gate 52 51 13 ∷ gate 54 0 0 ∷ [];
     }
 
 circuit-is : circuitOf formA ≡ circuitA
-unfolding tabulateFrom
+unfolding tabulateFrom gatesFrom
 circuit-is = refl
 
 -- the bytes of lines, each with its line feed (byte 10)
@@ -59,10 +61,10 @@ fileBytes (l ∷ ls) = bytes l ++ (10 ∷ fileBytes ls)
 
 abbrev pub linesA : List String
 linesA =
-    "aag 27 7 5 15 15" ∷ "2" ∷ "4" ∷ "6" ∷ "8" ∷ "10" ∷ "12" ∷ "14" ∷ "16 0" ∷ "18 0" ∷ "20 40" ∷ "22 0" ∷ "24 35" ∷ "26" ∷
-    "28" ∷ "0" ∷ "42" ∷ "44" ∷ "1" ∷ "1" ∷ "41" ∷ "1" ∷ "1" ∷ "0" ∷ "0" ∷ "40" ∷ "0" ∷ "35" ∷ "26 6 2" ∷ "28 8 5" ∷
-    "30 11 21" ∷ "32 7 11" ∷ "34 15 25" ∷ "36 0 0" ∷ "38 0 0" ∷ "40 31 9" ∷ "42 12 32" ∷ "44 35 13" ∷ "46 0 0" ∷ "48 0 0" ∷
-    "50 0 0" ∷ "52 0 0" ∷ "54 0 0" ∷ []
+    "aag 27 7 5 15 15" ∷ "2" ∷ "4" ∷ "6" ∷ "8" ∷ "10" ∷ "12" ∷ "14" ∷ "16 0" ∷ "18 0" ∷ "20 40" ∷ "22 0" ∷ "24 51" ∷ "26" ∷
+    "32" ∷ "0" ∷ "46" ∷ "52" ∷ "1" ∷ "1" ∷ "41" ∷ "1" ∷ "1" ∷ "0" ∷ "0" ∷ "40" ∷ "0" ∷ "51" ∷ "26 6 2" ∷ "28 0 0" ∷
+    "30 0 0" ∷ "32 8 5" ∷ "34 0 0" ∷ "36 0 0" ∷ "38 11 21" ∷ "40 39 9" ∷ "42 0 0" ∷ "44 7 11" ∷ "46 12 44" ∷ "48 0 0" ∷
+    "50 15 25" ∷ "52 51 13" ∷ "54 0 0" ∷ []
 
 written : writtenCircuit circuitA ≡ fileBytes linesA
 unfolding writtenCircuit writtenLines spaced decimal decimalIn

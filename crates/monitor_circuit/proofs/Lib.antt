@@ -1,4 +1,5 @@
 pub mod Rows
+pub mod GateRows
 pub mod Values
 pub mod OneCycle
 pub mod Calls

@@ -53,7 +53,7 @@ module _ (g : NormalForm) (ok : InNormalForm g) (p a s : List ℕ) (count : leng
   pub row-said : (k : ℕ) → k < g .rows → Says v (wiringOf g (suc k)) (rowOutput g p a s (suc k))
   row-said k h =
       row-says v (false-off g values) (true-on g values)
-      (activatorLiteral g (suc k)) (latchLiteral g (suc k)) (gateLiteral g 0 (suc k)) (gateLiteral g 1 (suc k)) (gateLiteral g 2 (suc k))
+      (activatorLiteral g (suc k)) (latchLiteral g (suc k)) (gateLiteral g 1 (suc k)) (gateLiteral g 2 (suc k)) (gateLiteral g 3 (suc k))
       (values .negated _) (values .negated _) (values .negated _) (values .negated _)
       (record { active = digitAt a (suc k); pending = digitAt p (suc k) })
       (activator-digit (suc k) (omega arith) h) (latch-value g values k h ∙ same-latches k h)

@@ -1,5 +1,5 @@
 -- The values of the monitors' circuit, by row. Assumes nothing.
-use Prim.Native.Nat.{ℕ, suc, _+_, _<_}
+use Prim.Native.Nat.{ℕ, suc, _+_, _*_, _<_}
 use mathlib.Core.Path.{_≡_, sym, ap, _∙_}
 use mathlib.Core.Bool.{Bool, true, false}
 use mathlib.Core.List.{List, _++_}
@@ -12,6 +12,7 @@ use Rattle.tables.proofs.Places.{length-tabulate, getD-tabulate}
 use Rattle.circuit.specs.Circuit.{Latch, Gate}
 use Rattle.circuit.specs.Valuation.{Valuation, IsValuation}
 use Rattle.monitor_circuit.specs.Monitors.{signalLiteral, activatorLiteral, latchLiteral, gateLiteral, wiringOf, latchOf, gateOf, circuitOf}
+use Rattle.monitor_circuit.proofs.GateRows.{RowAt, row-at, gates-count}
 use Rattle.monitor_circuit.proofs.Rows.{Gates}
 
 -- ---- lists in stripes, by their places
@@ -61,38 +62,12 @@ module _ (g : NormalForm) {inputs latches : ℕ → Bool} {v : Valuation} (value
         sym (ap (λ (q : Latch). v (q .current)) (getD-tabulate n (λ i. latchOf g (suc i)) k (record { current = 0; next = 0 }) h))
         ∙ values .latches-given k (rw length-tabulate h)
 
-    -- the gates in their stripes
-    abbrev none : Gate
-    none = record { lhs = 0; rhs0 = 0; rhs1 = 0 }
-
-    abbrev firsts : ℕ → Gate
-    firsts i = gateOf g 0 (λ w. w .first) (suc i)
-
-    abbrev seconds : ℕ → Gate
-    seconds i = gateOf g 1 (λ w. w .second) (suc i)
-
-    abbrev thirds : ℕ → Gate
-    thirds i = gateOf g 2 (λ w. w .third) (suc i)
-
-    gates-size : length (circuitOf g .gates) ≡ n + (n + n)
-    gates-size = three-size n firsts seconds thirds
-
-    first-at : getD (circuitOf g .gates) k none ≡ firsts k
-    first-at = in-first n firsts (tabulate n seconds ++ tabulate n thirds) none k h
-
-    second-at : getD (circuitOf g .gates) (n + k) none ≡ seconds k
-    second-at = behind-first n firsts (tabulate n seconds ++ tabulate n thirds) none k ∙ in-first n seconds (tabulate n thirds) none k h
-
-    third-at : getD (circuitOf g .gates) (n + (n + k)) none ≡ thirds k
-    third-at =
-        behind-first n firsts (tabulate n seconds ++ tabulate n thirds) none (n + k)
-        ∙ (behind-first n seconds (tabulate n thirds) none k ∙ getD-tabulate n thirds k none h)
-
     -- THE GATES OF A ROW HOLD
-    pub gates-value : Gates v (gateLiteral g 0 row) (gateLiteral g 1 row) (gateLiteral g 2 row) (wiringOf g row)
+    pub gates-value : Gates v (gateLiteral g 1 row) (gateLiteral g 2 row) (gateLiteral g 3 row) (wiringOf g row)
     gates-value =
+        let r : RowAt g (circuitOf g .gates) k row = row-at g k h in
         record {
-          first-and = rw first-at at (values .gates-and k (omega (arith, gates-size)));
-          second-and = rw second-at at (values .gates-and (n + k) (omega (arith, gates-size)));
-          third-and = rw third-at at (values .gates-and (n + (n + k)) (omega (arith, gates-size)));
+          first-and = rw (r .first-at) at (values .gates-and (3 * k) (omega (arith, gates-count g n 1)));
+          second-and = rw (r .second-at) at (values .gates-and (3 * k + 1) (omega (arith, gates-count g n 1)));
+          third-and = rw (r .third-at) at (values .gates-and (3 * k + 2) (omega (arith, gates-count g n 1)));
         }

@@ -16,6 +16,7 @@ use Rattle.normal_form.proofs.FormTables.{form-operands, form-signals}
 use Rattle.circuit.specs.Circuit.{Latch, Gate, maximum, definedIn, IsLiteral, WellFormed}
 use Rattle.monitor_circuit.specs.Wiring.{Operands, Wiring}
 use Rattle.monitor_circuit.specs.Monitors.{signalLiteral, activatorLiteral, latchLiteral, gateLiteral, wiringOf, byRow, latchOf, gateOf, circuitOf}
+use Rattle.monitor_circuit.proofs.GateRows.{gates-count, gates-each, lefts-from}
 use Rattle.monitor_circuit.proofs.WellFormedRows.{Low, row-low}
 
 -- ---- lists by their places
@@ -83,7 +84,7 @@ module _ (g : NormalForm) where
   outputs-size = rows-size-thrice (λ k. wiringOf g k .failed) (λ k. wiringOf g k .accept) (λ k. wiringOf g k .pending)
 
   pub gates-size : length (circuitOf g .gates) ≡ 3 * g .rows
-  gates-size = rows-size-thrice (gateOf g 0 (λ w. w .first)) (gateOf g 1 (λ w. w .second)) (gateOf g 2 (λ w. w .third))
+  gates-size = gates-count g (g .rows) 1
 
   pub maximum-is : maximum (circuitOf g) ≡ g .signals + 5 * g .rows
   maximum-is = omega (arith, inputs-size, latches-size, gates-size)
@@ -94,17 +95,8 @@ module _ (g : NormalForm) where
   abbrev ownFrom : ℕ → ℕ → ℕ
   ownFrom a i = 2 * (a + suc i)
 
-  abbrev gateLefts : ℕ → List ℕ
-  gateLefts j = byRow g (gateLiteral g j)
-
-  lefts-of : (j : ℕ) (operands : Wiring → Operands) → map (λ (x : Gate). x .lhs) (byRow g (gateOf g j operands)) ≡ gateLefts j
-  lefts-of j operands = map-tabulate (λ (x : Gate). x .lhs) (g .rows) (λ i. gateOf g j operands (suc i))
-
-  lefts-are : map (λ (x : Gate). x .lhs) (circuitOf g .gates) ≡ tabulate (g .rows + (g .rows + g .rows)) (ownFrom (g .signals + g .rows + g .rows))
-  lefts-are =
-      simp (map-append, lefts-of)
-      (ap (λ l. gateLefts 0 ++ l) (joined (g .rows) (g .rows) _ _ (ownFrom (g .signals + g .rows + g .rows + g .rows)) (λ i h. omega arith) (λ i h. omega arith))
-      ∙ joined (g .rows) (g .rows + g .rows) _ _ (ownFrom (g .signals + g .rows + g .rows)) (λ i h. omega arith) (λ i h. omega arith))
+  lefts-are : map (λ (x : Gate). x .lhs) (circuitOf g .gates) ≡ tabulate (3 * g .rows) (ownFrom (g .signals + g .rows + g .rows))
+  lefts-are = lefts-from g (g .rows) 0
 
   currents-are : map (λ (q : Latch). q .current) (circuitOf g .latches) ≡ tabulate (g .rows) (ownFrom (g .signals + g .rows))
   currents-are = map-tabulate (λ (q : Latch). q .current) (g .rows) (λ i. latchOf g (suc i))
@@ -112,12 +104,12 @@ module _ (g : NormalForm) where
   inputs-are : circuitOf g .inputs ≡ tabulate (g .signals + g .rows) (λ i. 2 * suc i)
   inputs-are = joined (g .signals) (g .rows) _ _ (λ i. 2 * suc i) (λ i h. omega arith) (λ i h. omega arith)
 
-  all-are : definedIn (circuitOf g) ≡ tabulate (g .signals + g .rows + (g .rows + (g .rows + (g .rows + g .rows)))) (λ i. 2 * suc i)
+  all-are : definedIn (circuitOf g) ≡ tabulate (g .signals + g .rows + (g .rows + 3 * g .rows)) (λ i. 2 * suc i)
   all-are =
       rw (inputs-are, currents-are, lefts-are)
       (ap (λ l. tabulate (g .signals + g .rows) (λ i. 2 * suc i) ++ l)
-      (joined (g .rows) (g .rows + (g .rows + g .rows)) _ _ (ownFrom (g .signals + g .rows)) (λ i h. omega arith) (λ i h. omega arith))
-      ∙ joined (g .signals + g .rows) (g .rows + (g .rows + (g .rows + g .rows))) _ _ (λ i. 2 * suc i) (λ i h. omega arith) (λ i h. omega arith))
+      (joined (g .rows) (3 * g .rows) _ _ (ownFrom (g .signals + g .rows)) (λ i h. omega arith) (λ i h. omega arith))
+      ∙ joined (g .signals + g .rows) (g .rows + 3 * g .rows) _ _ (λ i. 2 * suc i) (λ i h. omega arith) (λ i h. omega arith))
 
   -- THE DEFINED LITERALS ARE 2, 4, 6 AND SO ON, in the order of the file
   pub defined-are : definedIn (circuitOf g) ≡ tabulate (maximum (circuitOf g)) (λ i. 2 * suc i)
@@ -131,9 +123,9 @@ module _ (g : NormalForm) where
   module _ (ok : InNormalForm g) where
     -- ---- what is named
 
-    wiring-low : (i : ℕ) → i < g .rows → Low (gateLiteral g 0 (suc i)) (gateLiteral g 1 (suc i)) (gateLiteral g 2 (suc i)) (wiringOf g (suc i))
+    wiring-low : (i : ℕ) → i < g .rows → Low (gateLiteral g 1 (suc i)) (gateLiteral g 2 (suc i)) (gateLiteral g 3 (suc i)) (wiringOf g (suc i))
     wiring-low i h =
-        row-low (activatorLiteral g (suc i)) (latchLiteral g (suc i)) (gateLiteral g 0 (suc i)) (gateLiteral g 1 (suc i)) (gateLiteral g 2 (suc i)) (omega arith) (omega arith)
+        row-low (activatorLiteral g (suc i)) (latchLiteral g (suc i)) (gateLiteral g 1 (suc i)) (gateLiteral g 2 (suc i)) (gateLiteral g 3 (suc i)) (omega arith) (omega arith)
         (omega arith) (omega arith) (signalLiteral g) (activatorLiteral g) (tableOf (g .places) (suc i))
         (each-map _ _ (λ a x. omega (arith, x .1)) (tableOf (g .places) (suc i)) (form-operands g ok (suc i) (omega arith)))
         (each-signal-map _ _ (tableOf (g .places) (suc i)) (λ s x. omega (arith, x .1)) (form-signals g ok (suc i) (omega arith)))
@@ -160,6 +152,6 @@ module _ (g : NormalForm) where
           nexts = rows-each (λ q. Named (q .next)) (latchOf g) _ pending-named;
           named = rows-each-thrice Named (λ k. wiringOf g k .failed) (λ k. wiringOf g k .accept) (λ k. wiringOf g k .pending) _ failed-named accept-named pending-named;
           lower =
-              rows-each-thrice (λ x. (x .rhs0 < x .lhs) × (x .rhs1 < x .lhs)) (gateOf g 0 (λ w. w .first)) (gateOf g 1 (λ w. w .second)) (gateOf g 2 (λ w. w .third)) _
-              (λ i h. wiring-low i h .low-first) (λ i h. wiring-low i h .low-second) (λ i h. wiring-low i h .low-third);
+              gates-each g (λ x. (x .rhs0 < x .lhs) × (x .rhs1 < x .lhs))
+              (λ i h. let w = wiring-low i h in (w .low-first, w .low-second, w .low-third));
         }

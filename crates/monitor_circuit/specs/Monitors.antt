@@ -1,6 +1,6 @@
 -- The circuit of a normal form's monitors (02, 4); docs/CIRCUIT.md has the scheme and an example. Assumes nothing.
-use Prim.Native.Nat.{ℕ, suc, _+_, _*_}
-use mathlib.Core.List.{List, _++_}
+use Prim.Native.Nat.{ℕ, zero, suc, _+_, _*_, _-_}
+use mathlib.Core.List.{List, [], _∷_, _++_}
 use Rattle.tables.specs.Place.{tabulate}
 use Rattle.tables.specs.declared.row.NormalForm.{NormalForm}
 use Rattle.meaning.specs.Satisfaction.{tableOf}
@@ -9,7 +9,7 @@ use Rattle.monitor_circuit.specs.Wiring.{Operands, Wiring, rowWiring}
 
 module _ (g : NormalForm) where
   -- the variables in their order, signals and rows counting from 1: "inputs are the signals, then the activators by row; one latch a
-  -- row"; then the first gates of all rows, the second, the third
+  -- row"; then the gates, three a row, those of a row together
   abbrev pub signalLiteral : ℕ → ℕ
   signalLiteral s = 2 * s
 
@@ -22,14 +22,14 @@ module _ (g : NormalForm) where
   abbrev pub latchCount : ℕ
   latchCount = g .rows
 
-  -- gate j of row k, j from 0 to 2
+  -- gate j of row k, j from 1 to 3: the gates of k - 1 rows stand before it
   abbrev pub gateLiteral : ℕ → ℕ → ℕ
-  gateLiteral j k = 2 * (g .signals + g .rows + latchCount + (j * g .rows + k))
+  gateLiteral j k = 2 * (g .signals + g .rows + latchCount + (3 * (k - 1) + j))
 
   -- the gates of row k
   abbrev pub wiringOf : ℕ → Wiring
   wiringOf k =
-      rowWiring (activatorLiteral k) (latchLiteral k) (gateLiteral 0 k) (gateLiteral 1 k) (gateLiteral 2 k)
+      rowWiring (activatorLiteral k) (latchLiteral k) (gateLiteral 1 k) (gateLiteral 2 k) (gateLiteral 3 k)
       signalLiteral activatorLiteral (tableOf (g .places) k)
 
   -- something of each row, in their order
@@ -43,6 +43,12 @@ module _ (g : NormalForm) where
   gateOf j operands k =
       record { lhs = gateLiteral j k; rhs0 = operands (wiringOf k) .left; rhs1 = operands (wiringOf k) .right }
 
+  -- the gates of so many rows, of which k is the first
+  unfoldable pub gatesFrom : ℕ → ℕ → List Gate
+  gatesFrom zero k = []
+  gatesFrom (suc rows) k =
+      gateOf 1 (λ w. w .first) k ∷ gateOf 2 (λ w. w .second) k ∷ gateOf 3 (λ w. w .third) k ∷ gatesFrom rows (suc k)
+
   -- "outputs are failed, then accept, then pending, each by row"
   abbrev pub circuitOf : Circuit
   circuitOf =
@@ -50,5 +56,5 @@ module _ (g : NormalForm) where
         inputs = tabulate (g .signals) (λ i. signalLiteral (suc i)) ++ byRow activatorLiteral;
         latches = byRow latchOf;
         outputs = byRow (λ k. wiringOf k .failed) ++ (byRow (λ k. wiringOf k .accept) ++ byRow (λ k. wiringOf k .pending));
-        gates = byRow (gateOf 0 (λ w. w .first)) ++ (byRow (gateOf 1 (λ w. w .second)) ++ byRow (gateOf 2 (λ w. w .third)));
+        gates = gatesFrom (g .rows) 1;
       }
