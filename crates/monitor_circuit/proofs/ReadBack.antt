@@ -1,16 +1,13 @@
 -- The monitors' circuit has a file, which is read back. Assumes nothing.
-use Prim.Native.Nat.{ℕ, zero, suc, _+_, _*_, _≤_}
+use Prim.Native.Nat.{ℕ, suc, _+_, _*_, _≤_}
 use mathlib.Core.Path.{_≡_, refl}
 use mathlib.Core.List.{List, [], _∷_, _++_, map}
-use native.Mathlib.Nat.{mul-suc}
 use native.Mathlib.Omega.{arith}
 use lib.ListN.{length, length-append, length-map}
-use Rattle.tables.specs.Bytes.{bytes}
 use Rattle.tables.specs.declared.refusal.Outcome.the-variants.{Accepted}
 use Rattle.tables.specs.declared.row.Formula.{Formula}
 use Rattle.tables.specs.declared.row.NormalForm.{NormalForm}
 use Rattle.text.specs.Result.Result.{accepted}
-use Rattle.text.specs.Written.{decimal}
 use Rattle.text.proofs.Laws.{decimal-short}
 use Rattle.rule_file.specs.Outcome.{ruleOutcome}
 use Rattle.rule_file.proofs.Rules.{checked}
@@ -18,7 +15,7 @@ use Rattle.normal_form.specs.declared.sign.Sign.the-variants.{Plain}
 use Rattle.normal_form.specs.Form.{InNormalForm}
 use Rattle.normal_form.specs.Numbering.{normalForm}
 use Rattle.normal_form.proofs.Ranges.{form-normal}
-use Rattle.circuit.specs.Circuit.{Circuit, Latch, Gate}
+use Rattle.circuit.specs.Circuit.{Circuit, Latch}
 use Rattle.circuit_file.specs.File.{parseCircuit}
 use Rattle.circuit_file.specs.Written.{spaced, writtenLines, headerOf, linesOf, writtenCircuit}
 use Rattle.circuit_file.proofs.Circuits.{circuit-written}

@@ -9,9 +9,9 @@ use lib.Seq.{getD-append-add}
 use Rattle.tables.specs.Place.{tabulate}
 use Rattle.tables.specs.declared.row.NormalForm.{NormalForm}
 use Rattle.tables.proofs.Places.{length-tabulate, getD-tabulate}
-use Rattle.circuit.specs.Circuit.{Latch, Gate}
+use Rattle.circuit.specs.Circuit.{Latch}
 use Rattle.circuit.specs.Valuation.{Valuation, IsValuation}
-use Rattle.monitor_circuit.specs.Monitors.{signalLiteral, activatorLiteral, latchLiteral, gateLiteral, wiringOf, latchOf, gateOf, circuitOf}
+use Rattle.monitor_circuit.specs.Monitors.{signalLiteral, activatorLiteral, latchLiteral, gateLiteral, wiringOf, latchOf, circuitOf}
 use Rattle.monitor_circuit.proofs.GateRows.{RowAt, row-at, gates-count}
 use Rattle.monitor_circuit.proofs.Rows.{Gates}
 

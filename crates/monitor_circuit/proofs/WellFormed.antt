@@ -1,7 +1,7 @@
 -- The monitors' circuit is well formed; its sizes. Assumes nothing.
 use Prim.Native.Nat.{ℕ, suc, _+_, _*_, _-_, _<_}
 use mathlib.Core.Path.{_≡_, sym, ap, subst, _∙_}
-use mathlib.Core.List.{List, _++_, map, map-append}
+use mathlib.Core.List.{List, _++_, map}
 use native.Mathlib.Decide.{decLt}
 use native.Mathlib.Omega.{arith}
 use lib.ListN.{length, getD, length-append, List·getD-append}
@@ -14,8 +14,7 @@ use Rattle.meaning.proofs.Rows.{each-map, each-signal-map}
 use Rattle.normal_form.specs.Form.{InNormalForm}
 use Rattle.normal_form.proofs.FormTables.{form-operands, form-signals}
 use Rattle.circuit.specs.Circuit.{Latch, Gate, maximum, definedIn, IsLiteral, WellFormed}
-use Rattle.monitor_circuit.specs.Wiring.{Operands, Wiring}
-use Rattle.monitor_circuit.specs.Monitors.{signalLiteral, activatorLiteral, latchLiteral, gateLiteral, wiringOf, byRow, latchOf, gateOf, circuitOf}
+use Rattle.monitor_circuit.specs.Monitors.{signalLiteral, activatorLiteral, latchLiteral, gateLiteral, wiringOf, byRow, latchOf, circuitOf}
 use Rattle.monitor_circuit.proofs.GateRows.{gates-count, gates-each, lefts-from}
 use Rattle.monitor_circuit.proofs.WellFormedRows.{Low, row-low}
 
