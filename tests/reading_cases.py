@@ -1,13 +1,19 @@
-"""Files read alone. What is expected stands here by hand, from 01 ("The files", "Why a file is turned back"): nothing for a file that is
-accepted, or number, file and line of the refusal."""
-from suite import case, file, refusal, rule_text, sheet_text, take_text
+"""Files read alone. What is expected stands here by hand, of rules, takes and sheets from 01 ("The files", "Why a file is turned back"), of
+circuits from 02, item 4 (docs/CIRCUIT.md, "The text"): nothing for a file that is accepted, or number, file and line of the refusal."""
+from suite import case, circuit_text, file, refusal, rule_text, sheet_text, take_text
 
 
 def read(name, text, *refused):
+    """A file of the kind that its name begins with: rule, take, sheet or circuit."""
     kind = name.split('-')[0]
     if text is not None:
         file(name, text)
     case(f'read_{kind}', name, ends=refusal(*refused) if refused else 'ok\n')
+
+
+def header(name, first, *lines):
+    """A circuit file that is refused for its first line; the others are those of an or-gate where none are given."""
+    read(f'circuit-header-{name}', circuit_text(first, *lines or OR[1:]), 2, 1, 1)
 
 
 A = ['sig 1', 'not 1', 'sig 2', 'ever 3', 'or 2 4', 'always 5']
@@ -114,3 +120,151 @@ read('sheet-surplus', Z + 'z6=00\n', 2, 3, 9)
 read('sheet-order', Z.replace('rows=5\ncycles=2\n', 'cycles=2\nrows=5\n'), 2, 3, 2)
 read('sheet-format-2', Z.replace('format=1', 'format=2'), 3, 3, 1)
 read('sheet-65537-bytes', b'x' * 65537, 1, 3, 0)
+
+# circuit files that are accepted
+MONITORS = ['aag 27 7 5 15 15', '2', '4', '6', '8', '10', '12', '14', '16 0', '18 0', '20 40', '22 0', '24 51', '26', '32', '0', '46', '52',
+            '1', '1', '41', '1', '1', '0', '0', '40', '0', '51', '26 6 2', '28 0 0', '30 0 0', '32 8 5', '34 0 0', '36 0 0', '38 11 21',
+            '40 39 9', '42 0 0', '44 7 11', '46 12 44', '48 0 0', '50 15 25', '52 51 13', '54 0 0']
+OR = ['aag 3 2 0 1 1', '2', '4', '7', '6 3 5']
+TOGGLE = ['aag 1 0 1 2 0', '2 3', '2', '3']
+read('circuit-rule-a', circuit_text(*MONITORS))
+read('circuit-or', circuit_text(*OR))
+read('circuit-toggle', circuit_text(*TOGGLE))
+read('circuit-nothing', circuit_text('aag 0 0 0 0 0'))
+read('circuit-constant', circuit_text('aag 0 0 0 1 0', '1'))
+read('circuit-constants', circuit_text('aag 0 0 0 2 0', '0', '1'))
+read('circuit-inputs-falling', circuit_text('aag 3 3 0 0 0', '6', '4', '2'))
+read('circuit-latches-falling', circuit_text('aag 3 0 3 0 0', '6 2', '4 6', '2 4'))
+read('circuit-inputs-above-gates', circuit_text('aag 3 1 1 1 1', '6', '4 7', '6', '2 0 1'))
+read('circuit-later-gate-first', circuit_text('aag 4 2 0 1 2', '2', '4', '8', '8 6 3', '6 2 4'))
+read('circuit-operands-either-way', circuit_text('aag 4 2 0 1 2', '2', '4', '8', '6 2 4', '8 7 5'))
+read('circuit-operands-equal', circuit_text('aag 2 1 0 1 1', '2', '5', '4 3 3'))
+read('circuit-operands-constant', circuit_text('aag 1 0 0 1 1', '2', '2 0 1'))
+read('circuit-next-most', circuit_text('aag 1 0 1 0 0', '2 3'))
+read('circuit-output-most', circuit_text('aag 1 1 0 1 0', '2', '3'))
+read('circuit-outputs-equal', circuit_text('aag 1 1 0 3 0', '2', '2', '2', '2'))
+read('circuit-enable-reset-in-order',
+     circuit_text('aag 7 2 1 2 4', '2', '4', '6 14', '6', '7', '8 2 6', '10 3 7', '12 9 11', '14 4 12'))
+read('circuit-300-gates-falling',
+     circuit_text('aag 301 1 0 1 300', '2', '602', *(f'{2 * k} {2 * k - 1} {k}' for k in range(301, 1, -1))))
+LONG = circuit_text('aag 5 5 0 30234 0', '2', '4', '6', '8', '10', *[*range(12)] * 2519, 1, 2, 3, 4)
+MOST = circuit_text('aag 0 0 0 32759 0', *[1] * 32759)
+assert len(LONG) == 65531 and len(MOST) == 65536
+read('circuit-65536-bytes', LONG + '5\n11\n')
+read('circuit-most-lines', MOST)
+
+# refused as a whole
+read('circuit-65537-bytes', LONG + '10\n11\n', 1, 1, 0)
+read('circuit-65536-bytes-surplus', circuit_text(*OR).ljust(65536, '\n'), 2, 1, 6)
+read('circuit-empty', '', 2, 1, 1)
+read('circuit-missing', None, 2, 1, 1)
+read('circuit-noise', bytes((i * 167 + 13) % 256 for i in range(4096)), 2, 1, 1)
+read('circuit-carriage-return', circuit_text(*OR).replace('\n', '\r\n'), 2, 1, 1)
+read('circuit-rule', rule_text(A), 2, 1, 1)
+
+# refused in the header
+read('circuit-header-no-feed', 'aag 0 0 0 0 0', 2, 1, 1)
+header('capital', 'Aag 3 2 0 1 1')
+header('binary', 'aig 3 2 0 1 1')
+header('word-alone', 'aag')
+header('no-word', '3 2 0 1 1')
+header('leading-space', ' aag 3 2 0 1 1')
+header('two-spaces', 'aag  3 2 0 1 1')
+header('two-spaces-late', 'aag 3 2 0  1 1')
+header('tab', 'aag\t3 2 0 1 1')
+header('tab-late', 'aag 3 2 0 1\t1')
+header('trailing-space', 'aag 3 2 0 1 1 ')
+header('carriage-return', 'aag 3 2 0 1 1\r')
+header('leading-zero', 'aag 3 2 0 01 1')
+header('leading-zero-maximum', 'aag 03 2 0 1 1')
+header('two-zeros', 'aag 3 2 00 1 1')
+header('sixth-number', 'aag 3 2 0 1 1 0')
+header('four-numbers', 'aag 3 2 0 1')
+header('six-digits', 'aag 0 0 0 100000 0', '1')
+header('six-digits-sum', 'aag 100000 1 0 0 99999', '2')
+header('minus', 'aag 3 2 -0 1 1')
+header('plus', 'aag 3 2 0 +1 1')
+header('letter', 'aag 3 2 0 1x 1')
+header('nul', 'aag 3 2 0 1\0001')
+header('maximum-one-more', 'aag 4 2 0 1 1')
+header('maximum-one-less', 'aag 2 2 0 1 1')
+header('maximum-without-latch', 'aag 0 0 1 2 0', *TOGGLE[1:])
+header('maximum-with-outputs', 'aag 3 0 1 2 0', *TOGGLE[1:])
+header('empty-line-first', '', *OR)
+
+# refused in a line behind it
+read('circuit-input-odd', circuit_text('aag 1 1 0 0 0', '3'), 2, 1, 2)
+read('circuit-input-0', circuit_text('aag 1 1 0 0 0', '0'), 2, 1, 2)
+read('circuit-input-1', circuit_text('aag 1 1 0 0 0', '1'), 2, 1, 2)
+read('circuit-input-above', circuit_text('aag 1 1 0 0 0', '4'), 2, 1, 2)
+read('circuit-input-99999', circuit_text('aag 1 1 0 0 0', '99999'), 2, 1, 2)
+read('circuit-input-six-digits', circuit_text('aag 99999 99999 0 0 0', '100000'), 2, 1, 2)
+read('circuit-input-leading-zero', circuit_text('aag 1 1 0 0 0', '02'), 2, 1, 2)
+read('circuit-input-two-numbers', circuit_text('aag 1 1 0 0 0', '2 2'), 2, 1, 2)
+read('circuit-input-no-number', circuit_text('aag 1 1 0 0 0', ''), 2, 1, 2)
+read('circuit-input-space', circuit_text('aag 1 1 0 0 0', '2 '), 2, 1, 2)
+read('circuit-input-carriage-return', circuit_text('aag 1 1 0 0 0', '2\r'), 2, 1, 2)
+read('circuit-input-nul', circuit_text('aag 1 1 0 0 0', '2\0'), 2, 1, 2)
+read('circuit-input-twice', circuit_text('aag 3 3 0 0 0', '2', '4', '2'), 2, 1, 4)
+read('circuit-latch-odd', circuit_text('aag 1 0 1 2 0', '3 2', '2', '3'), 2, 1, 2)
+read('circuit-latch-0', circuit_text('aag 1 0 1 2 0', '0 2', '2', '3'), 2, 1, 2)
+read('circuit-latch-above', circuit_text('aag 1 0 1 2 0', '4 2', '2', '3'), 2, 1, 2)
+read('circuit-latch-is-input', circuit_text('aag 2 1 1 0 0', '2', '2 3'), 2, 1, 3)
+read('circuit-latch-twice', circuit_text('aag 2 0 2 0 0', '4 2', '4 2'), 2, 1, 3)
+read('circuit-latch-no-next', circuit_text('aag 1 0 1 2 0', '2', '2', '3'), 2, 1, 2)
+read('circuit-latch-reset', circuit_text('aag 1 0 1 2 0', '2 3 0', '2', '3'), 2, 1, 2)
+read('circuit-latch-two-spaces', circuit_text('aag 1 0 1 2 0', '2  3', '2', '3'), 2, 1, 2)
+read('circuit-latch-tab', circuit_text('aag 1 0 1 2 0', '2\t3', '2', '3'), 2, 1, 2)
+read('circuit-next-above', circuit_text('aag 1 0 1 2 0', '2 4', '2', '3'), 2, 1, 2)
+read('circuit-next-99999', circuit_text('aag 1 0 1 2 0', '2 99999', '2', '3'), 2, 1, 2)
+read('circuit-output-above', circuit_text('aag 1 0 1 2 0', '2 3', '2', '4'), 2, 1, 4)
+read('circuit-output-above-nothing', circuit_text('aag 0 0 0 1 0', '2'), 2, 1, 2)
+read('circuit-output-two-numbers', circuit_text('aag 1 0 1 2 0', '2 3', '2 3', '3'), 2, 1, 3)
+read('circuit-output-minus', circuit_text('aag 1 0 1 2 0', '2 3', '-1', '3'), 2, 1, 3)
+read('circuit-gate-odd', circuit_text(*OR[:4], '7 3 5'), 2, 1, 5)
+read('circuit-gate-0', circuit_text(*OR[:4], '0 0 0'), 2, 1, 5)
+read('circuit-gate-above', circuit_text(*OR[:4], '8 3 5'), 2, 1, 5)
+read('circuit-gate-is-input', circuit_text(*OR[:4], '4 3 2'), 2, 1, 5)
+read('circuit-gate-is-latch', circuit_text('aag 2 0 1 0 1', '4 2', '4 0 0'), 2, 1, 3)
+read('circuit-gate-twice', circuit_text('aag 4 2 0 1 2', '2', '4', '6', '6 2 4', '6 2 4'), 2, 1, 6)
+read('circuit-gate-first-higher', circuit_text('aag 4 2 0 1 2', '2', '4', '6', '6 8 2', '8 2 4'), 2, 1, 5)
+read('circuit-gate-second-higher', circuit_text('aag 4 2 0 1 2', '2', '4', '6', '6 2 8', '8 2 4'), 2, 1, 5)
+read('circuit-gate-input-higher', circuit_text('aag 2 1 0 1 1', '4', '2', '2 4 0'), 2, 1, 4)
+read('circuit-gate-first-itself', circuit_text(*OR[:4], '6 6 5'), 2, 1, 5)
+read('circuit-gate-second-itself', circuit_text(*OR[:4], '6 3 6'), 2, 1, 5)
+read('circuit-gate-first-not-itself', circuit_text(*OR[:4], '6 7 5'), 2, 1, 5)
+read('circuit-gate-second-not-itself', circuit_text(*OR[:4], '6 3 7'), 2, 1, 5)
+read('circuit-gate-two-numbers', circuit_text(*OR[:4], '6 3'), 2, 1, 5)
+read('circuit-gate-four-numbers', circuit_text(*OR[:4], '6 3 5 0'), 2, 1, 5)
+read('circuit-gate-two-spaces', circuit_text(*OR[:4], '6 3  5'), 2, 1, 5)
+read('circuit-gate-trailing-space', circuit_text(*OR[:4], '6 3 5 '), 2, 1, 5)
+read('circuit-gate-leading-space', circuit_text(*OR[:4], ' 6 3 5'), 2, 1, 5)
+read('circuit-gate-leading-zero', circuit_text(*OR[:4], '6 3 05'), 2, 1, 5)
+read('circuit-gate-six-digits', circuit_text(*OR[:4], '6 3 100000'), 2, 1, 5)
+read('circuit-first-fault', circuit_text(*OR[:3], '8', '6 6 6'), 2, 1, 4)
+read('circuit-sections-changed', circuit_text('aag 1 0 1 2 0', '2', '3', '2 3'), 2, 1, 2)
+read('circuit-enable-reset',
+     circuit_text('aag 7 2 1 2 4', '2', '4', '6 8', '6', '7', '8 4 10', '10 13 15', '12 2 6', '14 3 7'), 2, 1, 7)
+
+# refused at the end
+read('circuit-line-absent', circuit_text(*OR[:4]), 2, 1, 5)
+read('circuit-lines-absent', circuit_text(*OR[:1]), 2, 1, 2)
+read('circuit-no-feed', circuit_text(*OR)[:-1], 2, 1, 5)
+read('circuit-no-feed-early', circuit_text(*OR[:4])[:-1], 2, 1, 4)
+read('circuit-surplus-feed', circuit_text(*OR) + '\n', 2, 1, 6)
+read('circuit-surplus-byte', circuit_text(*OR) + ' ', 2, 1, 6)
+read('circuit-surplus-nul', circuit_text(*OR) + '\0', 2, 1, 6)
+read('circuit-surplus-gate', circuit_text(*OR, '8 2 4'), 2, 1, 6)
+read('circuit-surplus-behind-nothing', circuit_text('aag 0 0 0 0 0', ''), 2, 1, 2)
+read('circuit-symbol', circuit_text(*OR, 'i0 x'), 2, 1, 6)
+read('circuit-comment', circuit_text(*OR, 'c'), 2, 1, 6)
+
+# refused though the counts are in range: fewer lines than they say; and the highest variable that a line can name
+read('circuit-99999-inputs', circuit_text('aag 99999 99999 0 0 0', '2'), 2, 1, 3)
+read('circuit-99999-latches', circuit_text('aag 99999 0 99999 0 0', '2 99999'), 2, 1, 3)
+read('circuit-99999-outputs', circuit_text('aag 1 1 0 99999 0', '2', '2'), 2, 1, 4)
+read('circuit-99999-gates', circuit_text('aag 99999 0 0 0 99999', '99998 99997 0'), 2, 1, 3)
+read('circuit-40000-inputs', circuit_text('aag 40000 40000 0 0 0', '80000', '80000'), 2, 1, 3)
+read('circuit-highest-variable-twice', circuit_text('aag 99999 99999 0 0 0', '99998', '99996', '99998'), 2, 1, 4)
+read('circuit-highest-variable-odd', circuit_text('aag 99999 99999 0 0 0', '99998', '99999'), 2, 1, 3)
+read('circuit-counts-over-maximum', circuit_text('aag 99999 33333 33333 99999 33333', '2'), 2, 1, 3)

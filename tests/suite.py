@@ -57,6 +57,10 @@ def sheet_text(rows, cycles=None, count=None):
     return f'format=1\nrows={count or len(rows)}\ncycles={cycles or len(rows[0])}\n' + ''.join(lines)
 
 
+def circuit_text(*lines):
+    return ''.join(f'{line}\n' for line in lines)
+
+
 def rule(name, *rows, signals=2):
     name = 'rule-' + name
     tables[name] = rows, signals

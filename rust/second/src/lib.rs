@@ -8,6 +8,7 @@
 
 #![forbid(unsafe_code)]
 
+mod circuit;
 mod judge;
 mod lines;
 mod monitor;

@@ -1,4 +1,4 @@
-//! Files as lines `key=value`, each with its line feed, and the numbers in their values.
+//! Files as lines, each with its line feed: lines `key=value` but in circuits, and the numbers in their values.
 
 use crate::refusal::Refusal;
 use std::ops::RangeInclusive;
@@ -14,13 +14,18 @@ pub struct Lines<'a> {
 }
 
 impl<'a> Lines<'a> {
-    /// The lines of file number `file`, its format line read.
-    pub fn of(file: u8, bytes: &'a [u8]) -> Result<Self, Refusal> {
+    /// The lines of file number `file`, none of them read.
+    pub fn all(file: u8, bytes: &'a [u8]) -> Result<Self, Refusal> {
         if bytes.len() > MOST_BYTES {
             return Err(Refusal { number: 1, file, line: 0 });
         }
         let is_feed: fn(&u8) -> bool = |byte| *byte == b'\n';
-        let mut lines = Lines { file, line: 0, rest: bytes.split_inclusive(is_feed) };
+        Ok(Lines { file, line: 0, rest: bytes.split_inclusive(is_feed) })
+    }
+
+    /// The lines of file number `file`, its format line read.
+    pub fn of(file: u8, bytes: &'a [u8]) -> Result<Self, Refusal> {
+        let mut lines = Lines::all(file, bytes)?;
         let format = lines.parsed("format", number)?;
         lines.require(format == 1, 3)?;
         Ok(lines)
@@ -36,10 +41,15 @@ impl<'a> Lines<'a> {
         fits.then_some(()).ok_or(self.refusal(number))
     }
 
-    /// Reads the next line; its key must be `key`, to the byte, and `parse` must take its value.
-    pub fn parsed<T>(&mut self, key: &str, parse: impl FnOnce(&'a str) -> Option<T>) -> Result<T, Refusal> {
+    /// Reads the next line; `parse` must take it, without its line feed.
+    pub fn read<T>(&mut self, parse: impl FnOnce(&'a str) -> Option<T>) -> Result<T, Refusal> {
         self.line += 1;
-        self.rest.next().and_then(|line| value(line, key)).and_then(parse).ok_or(self.refusal(2))
+        self.rest.next().and_then(text).and_then(parse).ok_or(self.refusal(2))
+    }
+
+    /// Reads the next line; its key must be `key`, to the byte, and `parse` must take its value, behind the equals sign.
+    pub fn parsed<T>(&mut self, key: &str, parse: impl FnOnce(&'a str) -> Option<T>) -> Result<T, Refusal> {
+        self.read(|line| line.strip_prefix(key)?.strip_prefix('=').and_then(parse))
     }
 
     /// Reads the next line as a count in a range.
@@ -57,10 +67,9 @@ impl<'a> Lines<'a> {
     }
 }
 
-/// The value of a line with this key, behind its equals sign and without its line feed.
-fn value<'a>(line: &'a [u8], key: &str) -> Option<&'a str> {
-    let text = std::str::from_utf8(line).ok()?.strip_suffix('\n')?;
-    text.strip_prefix(key)?.strip_prefix('=')
+/// A line without its line feed.
+fn text(line: &[u8]) -> Option<&str> {
+    std::str::from_utf8(line).ok()?.strip_suffix('\n')
 }
 
 /// A decimal number in a value: one to five digits, the first of which may be zeros.

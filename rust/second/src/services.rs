@@ -1,5 +1,6 @@
 //! The services, from bytes to bytes. A refused one leaves its output alone.
 
+use crate::circuit::Circuit;
 use crate::judge::{either, looped, open, read_pair, text, Verdict};
 use crate::lines::digit;
 use crate::monitor::Cycle;
@@ -23,6 +24,11 @@ pub fn read_take(take: &[u8]) -> Result<(), Refusal> {
 /// Reads a sheet file.
 pub fn read_sheet(sheet: &[u8]) -> Result<(), Refusal> {
     Sheet::read(sheet).map(|_| ())
+}
+
+/// Reads a circuit file.
+pub fn read_circuit(circuit: &[u8]) -> Result<(), Refusal> {
+    Circuit::read(circuit).map(|_| ())
 }
 
 /// The bound on the length of a rule's normal form.

@@ -4,8 +4,8 @@
 #![forbid(unsafe_code)]
 
 use second::{
-    bound, check_sheet, judge_text, make_sheet, normal, normal_length, read_rule, read_sheet, read_take, run_begin,
-    run_cycle, run_rule, run_verdict, sheet_length, step, Finding, Refusal,
+    bound, check_sheet, judge_text, make_sheet, normal, normal_length, read_circuit, read_rule, read_sheet, read_take,
+    run_begin, run_cycle, run_rule, run_verdict, sheet_length, step, Finding, Refusal,
 };
 
 /// The longest text of `judge` or `sheet`: a sheet of 128 rows and 256 cycles.
@@ -33,6 +33,7 @@ fn answer(words: &[&str]) -> Result<String, Refusal> {
         ["read_rule", rule] => read_rule(&load(rule)).map(ok),
         ["read_take", take] => read_take(&load(take)).map(ok),
         ["read_sheet", sheet] => read_sheet(&load(sheet)).map(ok),
+        ["read_circuit", circuit] => read_circuit(&load(circuit)).map(ok),
         ["bound", rule] => bound(&load(rule)).map(|bytes| format!("bound={bytes}\n")),
         ["normal_length", rule] => normal_length(&load(rule), false).map(length),
         ["negated_length", rule] => normal_length(&load(rule), true).map(length),
