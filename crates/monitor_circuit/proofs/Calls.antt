@@ -17,10 +17,10 @@ use Rattle.circuit.specs.Circuit.{Latch}
 use Rattle.circuit.specs.Valuation.{Valuation, outputValues, nextLatches, latchIn, IsRun}
 use Rattle.step.specs.Fitting.{Fitting}
 use Rattle.step.specs.Step.{digitAt, formOutput, rowsIn}
-use Rattle.step.specs.Calls.{Call, Kept.wrote, given, InOrder, kept, handed, answered, left}
-use Rattle.step.proofs.Order.{at-first, at-next}
 use Rattle.step.proofs.Outputs.{failedDigit, acceptDigit, pendingDigit}
-use Rattle.step.proofs.Steps.{answered-range, answered-fits, left-is, kept-is, handed-on, kept-back, handed-fresh}
+use Rattle.step_calls.specs.Calls.{Call, Kept.wrote, given, InOrder, kept, handed, answered, left}
+use Rattle.step_calls.proofs.Order.{at-first, at-next}
+use Rattle.step_calls.proofs.Steps.{answered-range, answered-fits, left-is, kept-is, handed-on, kept-back, handed-fresh}
 use Rattle.monitor_circuit.specs.Monitors.{latchOf}
 use Rattle.monitor_circuit.specs.Steps.{ruleCircuit, inputsIn}
 use Rattle.monitor_circuit.proofs.Values.{three-size}

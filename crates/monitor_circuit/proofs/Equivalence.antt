@@ -13,7 +13,7 @@ use Rattle.normal_form.proofs.Ranges.{form-normal}
 use Rattle.circuit.specs.Circuit.{WellFormed}
 use Rattle.circuit.specs.Valuation.{Valuation, outputValues, nextLatches, IsRun}
 use Rattle.circuit.proofs.Exists.{run-exists}
-use Rattle.step.specs.Calls.{handed, left}
+use Rattle.step_calls.specs.Calls.{handed, left}
 use Rattle.monitor_circuit.specs.Steps.{ruleCircuit, callWith}
 use Rattle.monitor_circuit.proofs.WellFormed.{circuit-well-formed}
 use Rattle.monitor_circuit.proofs.Inputs.{outputs-step, nexts-step}

@@ -18,7 +18,7 @@ use Rattle.circuit_file.specs.Written.{spaced, writtenLines, writtenCircuit}
 use Rattle.normal_form.specs.declared.sign.Sign.the-variants.{Plain}
 use Rattle.normal_form.specs.Reach.{markedDown, reach}
 use Rattle.normal_form.specs.Numbering.{listing, normalListing, normalForm}
-use Rattle.step.proofs.Witness.{ruleA}
+use Rattle.step_calls.proofs.Witness.{ruleA}
 use Rattle.monitor_circuit.specs.Monitors.{gatesFrom, circuitOf}
 use Rattle.monitor_circuit.specs.Steps.{ruleCircuit}
 

@@ -23,9 +23,9 @@ use Rattle.normal_form.specs.declared.sign.Sign.the-variants.{Plain}
 use Rattle.normal_form.specs.Numbering.{normalForm}
 use Rattle.circuit.specs.Valuation.{Valuation, outputValues, nextLatches, IsRun}
 use Rattle.step.specs.Step.{digitOf, rowOutput, formOutcome, formOutput, rowsIn}
-use Rattle.step.specs.Calls.{Call, Kept.fresh, given, InOrder, kept, handed, answered, left}
 use Rattle.step.proofs.Checks.{all-right}
-use Rattle.step.proofs.Steps.{digit-says, left-is, kept-is}
+use Rattle.step_calls.specs.Calls.{Call, Kept.fresh, given, InOrder, kept, handed, answered, left}
+use Rattle.step_calls.proofs.Steps.{digit-says, left-is, kept-is}
 use Rattle.monitor_circuit.specs.Steps.{ruleCircuit, inputsIn, callWith}
 use Rattle.monitor_circuit.proofs.Values.{in-first, behind-first, stripes-size}
 use Rattle.monitor_circuit.proofs.Calls.{output-size, outputs-are, nexts-are}

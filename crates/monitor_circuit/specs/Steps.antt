@@ -9,7 +9,7 @@ use Rattle.normal_form.specs.declared.sign.Sign.the-variants.{Plain}
 use Rattle.normal_form.specs.Numbering.{normalForm}
 use Rattle.circuit.specs.Circuit.{Circuit}
 use Rattle.step.specs.Step.{digitAt, digitOf, rowsIn}
-use Rattle.step.specs.Calls.{Call}
+use Rattle.step_calls.specs.Calls.{Call}
 use Rattle.monitor_circuit.specs.Monitors.{circuitOf}
 
 -- a rule's circuit: that of its normal form

@@ -1,3 +1,2 @@
 pub mod Fitting
 pub mod Step
-pub mod Calls

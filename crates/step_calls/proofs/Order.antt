@@ -10,7 +10,7 @@ use native.Mathlib.Decide.{le-ind}
 use native.Mathlib.Omega.{arith}
 use Rattle.meaning.specs.Operator.{During}
 use Rattle.meaning.proofs.Readings.{lt-or-le, On, on-and-off}
-use Rattle.step.specs.Calls.{InOrder}
+use Rattle.step_calls.specs.Calls.{InOrder}
 
 module _ {answered : ℕ → Bool} {at : ℕ → ℕ} (order : InOrder answered at) where
   at-far : (c : ℕ) → c ≤ at c

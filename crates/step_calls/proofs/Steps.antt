@@ -27,12 +27,12 @@ use Rattle.normal_form.specs.declared.sign.Sign.the-variants.{Plain}
 use Rattle.normal_form.specs.Numbering.{normalForm}
 use Rattle.writing.specs.declared.answer.Bytes.{Bytes}
 use Rattle.writing.specs.declared.answer.Bytes.the-variants.{Count, Refused as BytesRefused}
 use Rattle.step.specs.Fitting.{Fitting}
 use Rattle.step.specs.Step.{digitAt, digitOf, rowOutput, formOutcome, formOutput, rowsIn, stepOutcome, stepAnswer}
-use Rattle.step.specs.Calls.{Call, Kept.fresh, Kept.wrote, given, onAnswer, kept, handed, answered, left}
 use Rattle.step.proofs.Outputs.{failedDigit, acceptDigit, pendingDigit}
 use Rattle.step.proofs.Checks.{accepted-fits}
 use Rattle.step.proofs.Answers.{answered-answer, answered-left}
+use Rattle.step_calls.specs.Calls.{Call, Kept.fresh, Kept.wrote, given, onAnswer, kept, handed, answered, left}
 
 -- a digit is 1 exactly where it stands for true
 pub digit-says : (b : Bool) → eqb (digitOf b) 49 ≡ b

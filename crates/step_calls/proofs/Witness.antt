@@ -40,9 +40,9 @@ use Rattle.normal_form.specs.Reach.{markedDown, reach}
 use Rattle.normal_form.specs.Numbering.{listing, normalListing, normalForm}
 use Rattle.writing.specs.declared.answer.Bytes.{Bytes}
 use Rattle.writing.specs.declared.answer.Bytes.the-variants.{Count, Refused}
 use Rattle.step.specs.Step.{digitAt, formOutcome, formOutput, rowsIn, stepAnswer}
-use Rattle.step.specs.Calls.{Call, Kept, Kept.fresh, Kept.wrote, given, onAnswer, kept, handed, answered, left, TakeOf, StepsPass}
-use Rattle.step.proofs.Demand.{steps-demand}
+use Rattle.step_calls.specs.Calls.{Call, Kept, Kept.fresh, Kept.wrote, given, onAnswer, kept, handed, answered, left, TakeOf, StepsPass}
+use Rattle.step_calls.proofs.Demand.{steps-demand}
 
 -- "Rule A: `r1=sig 1`, `r2=not 1`, `r3=sig 2`, `r4=ever 3`, `r5=or 2 4`, `r6=always 5`"; its normal form has 5 rows
 abbrev pub ruleA : Formula

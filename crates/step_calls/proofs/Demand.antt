@@ -21,10 +21,10 @@ use Rattle.normal_form.proofs.FormTables.{form-ordered, form-positive, form-sig
 use Rattle.normal_form.proofs.Demand.{satisfied-alike}
 use Rattle.monitors.specs.Along.{Activators}
 use Rattle.monitors.proofs.Soundness.{outputFrom, HandedOn, Unfailing, active-row-true}
 use Rattle.step.specs.Step.{digitAt, rowsIn}
-use Rattle.step.specs.Calls.{Call, given, InOrder, kept, handed, answered, left, TakeOf, StepsPass}
-use Rattle.step.proofs.Order.{reached, later, first-unique, at-first, at-next, order-unique, listed, listed-in-order}
-use Rattle.step.proofs.Steps.{digit-one, digit-not-one, answered-range, left-failed, left-accept, handed-on, kept-back, handed-fresh}
+use Rattle.step_calls.specs.Calls.{Call, given, InOrder, kept, handed, answered, left, TakeOf, StepsPass}
+use Rattle.step_calls.proofs.Order.{reached, later, first-unique, at-first, at-next, order-unique, listed, listed-in-order}
+use Rattle.step_calls.proofs.Steps.{digit-one, digit-not-one, answered-range, left-failed, left-accept, handed-on, kept-back, handed-fresh}
 
 module _ (f : Formula) (calls : ℕ → Call) where
   abbrev g : NormalForm

@@ -1,0 +1,4 @@
+pub mod Order
+pub mod Steps
+pub mod Demand
+pub mod Witness
