@@ -22,7 +22,7 @@ use Rattle.meaning.specs.Approximant.{approximant}
 use Rattle.meaning.proofs.Evaluation.{bitsWithin, bitsOf}
 use Rattle.normal_form.specs.Reach.{markedDown, reach}
 use Rattle.normal_form.specs.Numbering.{listing, normalListing, normalForm}
-use Rattle.writing.specs.Normal.{writtenNormal}
+use Rattle.row_writer.specs.Normal.{writtenNormal}
 use Rattle.writing.specs.Refusal.{refusalText}
 use Rattle.judge_text.specs.Text.{verdictText}
 use Rattle.sheet_file.specs.Sheet.{parseSheet}

@@ -17,8 +17,8 @@ use Rattle.normal_form.specs.declared.sign.Sign.{Sign}
 use Rattle.normal_form.specs.Numbering.{normalRows, normalForm}
 use Rattle.normal_form.proofs.Ranges.{rows-double, form-normal, form-rows}
 use Rattle.writing.specs.declared.answer.Bytes.the-variants.{Count, Refused as BytesRefused}
-use Rattle.writing.specs.Normal.{writtenNormal}
-use Rattle.writing.proofs.Lengths.{text-most}
+use Rattle.row_writer.specs.Normal.{writtenNormal}
+use Rattle.row_writer.proofs.Lengths.{text-most}
 use Rattle.rule_file.specs.Outcome.{ruleOutcome}
 use Rattle.normal_file.specs.Answer.{boundAnswer, boundOf, output}
 

@@ -10,7 +10,7 @@ use Rattle.rule_file.proofs.Rules.{text-read}
 use Rattle.normal_form.specs.declared.sign.Sign.{Sign}
 use Rattle.normal_form.specs.Numbering.{normalRows, normalForm}
 use Rattle.normal_form.proofs.Ranges.{normal-ranges, form-normal, form-rows}
-use Rattle.writing.specs.Normal.{writtenNormal}
+use Rattle.row_writer.specs.Normal.{writtenNormal}
 use Rattle.normal_file.specs.Answer.{output}
 use Rattle.normal_file.specs.Reading.{normalOf, parseNormal}
 use Rattle.normal_file.proofs.Lengths.{output-most}

@@ -16,7 +16,7 @@ pub fn write_form(formula: Formula, sign: Sign, buf: &mut [u8]) -> Bytes
 {
     let form = normal_form::normal_form(formula, sign);
     let mut space = [0u8; 2846];
-    let n = writing::normal::put_normal(&mut space, form);
+    let n = row_writer::normal::put_normal(&mut space, form);
     writing::deliver::deliver(&space[..n], buf)
 }
 

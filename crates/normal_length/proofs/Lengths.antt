@@ -9,7 +9,7 @@ use Rattle.tables.specs.declared.row.NormalForm.{NormalForm}
 use Rattle.text.specs.Written.{decimal, writtenLine, writtenBody}
 use Rattle.text.proofs.Laws.{line-length}
 use Rattle.rule_row.specs.Written.{writtenRow}
-use Rattle.writing.specs.Normal.{rowsOf, writtenNormal}
+use Rattle.row_writer.specs.Normal.{rowsOf, writtenNormal}
 use Rattle.writing.proofs.Texts.{decimal-one}
 
 pub normal-size : (g : NormalForm)

@@ -3,7 +3,7 @@ ghost use mathlib.Core.Path.{_≡_};
 ghost use Prim.Native.Nat.{_≤_};
 ghost use lib.ListN.{length};
 ghost use Rattle.rule_file.specs.Valid.{InRange};
-ghost use Rattle.writing.specs.Normal.{writtenNormal};
+ghost use Rattle.row_writer.specs.Normal.{writtenNormal};
 ghost use Rattle.normal_file.specs.Answer.{output};
 ghost use Rattle.normal_length.specs.Answer.{lengthAnswer};
 use normal_form::sign::Sign;

@@ -4,7 +4,7 @@ ghost use Prim.Native.Nat.{_≤_};
 ghost use lib.ListN.{length};
 ghost use Rattle.text.specs.Written.{writtenBody};
 ghost use Rattle.rule_row.specs.Written.{numbersText, writtenRow};
-ghost use Rattle.writing.specs.Normal.{rowsOf};
+ghost use Rattle.row_writer.specs.Normal.{rowsOf};
 use tables::kind;
 use tables::row::NormalForm;
 use tables::row::Row;

@@ -13,7 +13,7 @@ use Rattle.rule_file.specs.Rule.{formulaOf, parseRule}
 use Rattle.rule_file.specs.Valid.{InRange}
 use Rattle.rule_file.specs.Written.{rowsOf, writtenRule}
 use Rattle.rule_file.proofs.Rules.{text-read, checked}
-use Rattle.writing.proofs.Lengths.{text-most}
+use Rattle.row_writer.proofs.Lengths.{text-most}
 use Rattle.writing.proofs.Answered.{answered-text}
 use Rattle.writing.specs.declared.answer.Bytes.the-variants.{Count}
 use Rattle.rule_file.specs.Outcome.{ruleOutcome}

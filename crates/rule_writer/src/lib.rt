@@ -23,7 +23,7 @@ fn put_rows(buf: &mut [u8], at: usize, formula: Formula) -> usize
     while k < formula.rows {
         let place = formula.places[k as usize];
         let row = place.row;
-        i = writing::row::put_row_line(&mut *buf, i, k + 1, row);
+        i = row_writer::row::put_row_line(&mut *buf, i, k + 1, row);
         k += 1;
     }
     i
@@ -34,7 +34,7 @@ fn put_rule(buf: &mut [u8], formula: Formula) -> usize
     requires { ⌜ (formula .rows ≤ 64) × (1438 ≤ length (now buf)) ⌝ }
     ensures text { λ r. ⌜ Wrote (now (buf .entry)) 0 (writtenRule formula) (now (buf .exit)) r ⌝ }
 {
-    let a = writing::normal::put_counts(&mut *buf, formula.signals, formula.rows);
+    let a = row_writer::normal::put_counts(&mut *buf, formula.signals, formula.rows);
     put_rows(buf, a, formula)
 }
 

@@ -10,9 +10,6 @@ use lib.Seq.{paste, paste-suc, length-paste, take-paste, drop-paste, take-all, t
 use borrow.Author.Tests.{lt-ltb, le-ltb, le-leb, lt-leb}
 use Rattle.text.proofs.Laws.{decimal-large, line-length}
 use Rattle.text.specs.Written.{decimalIn, decimal, writtenLine, writtenBody}
-use Rattle.tables.specs.declared.row.Row.{Row}
-use Rattle.rule_row.specs.Written.{writtenRow}
-use Rattle.rule_file.specs.Written.{ruleText}
 use Rattle.writing.specs.Lent.{Wrote, overlaid}
 
 -- lists that agree from e on agree from any later place on
@@ -122,11 +119,6 @@ line-front key value rest =
 -- a line, and what was put behind it
 pub wrote-line : {b m a : List ℕ} {at e f : ℕ} (key value : List ℕ) {rest : List ℕ} → Wrote b at (writtenLine key value []) m e → Wrote m e rest a f → Wrote b at (writtenLine key value rest) a f
 wrote-line key value {rest} x y = wrote-is (sym (line-front key value rest)) (wrote-both x y)
-
--- a rule file is its counts and the lines of its rows
-pub counts-front : (signals rows : ℕ) (rs : List Row) → ruleText signals rows [] ++ writtenBody 114 writtenRow 1 rs ≡ ruleText signals rows rs
-unfolding writtenBody
-counts-front signals rows rs = simp append-assoc
 
 module _ {A : Type 0} (letter : ℕ) (text : A → List ℕ) where
   body-more : (xs : List A) (x : A) (k : ℕ) → writtenBody letter text k (xs ++ (x ∷ [])) ≡ writtenBody letter text k xs ++ writtenLine (letter ∷ decimal (k + length xs)) (text x) []

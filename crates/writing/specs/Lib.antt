@@ -1,4 +1,3 @@
 pub mod Answer
 pub mod Lent
-pub mod Normal
 pub mod Refusal

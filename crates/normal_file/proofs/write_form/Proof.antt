@@ -1,7 +1,7 @@
 use mathlib.Core.Path.{sym, ap, _∙_}
 use lib.Seq.{length-take-le}
 use Rattle.normal_form.proofs.Ranges.{form-normal}
-use Rattle.writing.specs.Normal.{writtenNormal}
+use Rattle.row_writer.specs.Normal.{writtenNormal}
 use Rattle.writing.proofs.Texts.{wrote-within, wrote-start}
 use Rattle.writing.proofs.Answers.{delivers-is}
 use borrow.Author.Needs.{needs}

@@ -2,7 +2,7 @@ use mathlib.Core.Path.{ap, _∙_}
 use lib.ListN.{length}
 use Rattle.tables.specs.declared.row.NormalForm.{NormalForm}
 use Rattle.normal_form.proofs.Ranges.{form-normal}
-use Rattle.writing.specs.Normal.{writtenNormal}
+use Rattle.row_writer.specs.Normal.{writtenNormal}
 use borrow.Author.Needs.{needs}
 use Rattle.normal_length.proofs.measure_form.Statement.{statement}
 use Rattle.normal_length.proofs.measure_form.Tie as tie

@@ -3,7 +3,7 @@ use mathlib.Core.Path.{_≡_, sym, _∙_}
 use native.Mathlib.Omega.{arith}
 use lib.ListN.{length, length-map}
 use Rattle.rule_file.specs.Rule.{inPlace, unused}
-use Rattle.writing.proofs.Rows.{RowsAt, rows-start, rows-more, rows-end}
+use Rattle.row_writer.proofs.Rows.{RowsAt, rows-start, rows-more, rows-end}
 use borrow.Author.Needs.{needs}
 use Rattle.rule_writer.proofs.put_rows.Statement.{statement}
 use Rattle.rule_writer.proofs.put_rows.Tie as tie

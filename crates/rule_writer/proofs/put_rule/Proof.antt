@@ -1,5 +1,6 @@
 use Rattle.rule_file.specs.Written.{rowsOf, writtenRule}
-use Rattle.writing.proofs.Texts.{wrote-both, wrote-is, counts-front}
+use Rattle.writing.proofs.Texts.{wrote-both, wrote-is}
+use Rattle.row_writer.proofs.Rows.{counts-front}
 use borrow.Author.Needs.{needs}
 use Rattle.rule_writer.proofs.put_rule.Statement.{statement}
 use Rattle.rule_writer.proofs.put_rule.Tie as tie

@@ -1,15 +1,17 @@
--- The loop that writes the used rows of a table, whatever places it has. Assumes nothing.
+-- The loop that writes the used rows of a table, whatever places it has, and a rule file by its counts and rows. Assumes nothing.
 use Prim.Native.Nat.{ℕ, _+_, _*_, _≤_, _<_}
-use mathlib.Core.Path.{ap}
-use mathlib.Core.List.{List, [], _∷_}
+use mathlib.Core.Path.{_≡_, ap}
+use mathlib.Core.List.{List, [], _∷_, _++_, append-assoc}
 use native.Mathlib.Omega.{arith}
 use lib.ListN.{length, getD, take}
 use Rattle.tables.specs.Used.{usedRows}
+use Rattle.tables.specs.declared.row.Row.{Row}
 use Rattle.tables.specs.declared.row.RowPlace.{RowPlace}
 use Rattle.text.specs.Written.{decimal, writtenLine, writtenBody}
 use Rattle.rule_row.specs.Written.{writtenRow}
+use Rattle.rule_file.specs.Written.{ruleText}
 use Rattle.writing.specs.Lent.{Wrote}
 use Rattle.writing.proofs.Texts.{wrote-none, wrote-both, wrote-is, places-next, places-all}
 
 -- the lines of the first k rows are written, in at most 22 bytes each
 pub record RowsAt (rows : ℕ) (places : List RowPlace) (before : List ℕ) (at k : ℕ) (after : List ℕ) (i : ℕ) : Type 0 where
@@ -32,3 +34,8 @@ module _ {rows : ℕ} {places : List RowPlace} {before : List ℕ} {at k : ℕ} 
 
   pub rows-end : rows ≤ k → Wrote before at (writtenBody 114 writtenRow 1 (usedRows rows places)) buf i
   rows-end h = wrote-is (ap (writtenBody 114 writtenRow 1) (places-all (λ (p : RowPlace). p .row) rows places room k h)) (inv .text)
+
+-- a rule file is its counts and the lines of its rows
+pub counts-front : (signals rows : ℕ) (rs : List Row) → ruleText signals rows [] ++ writtenBody 114 writtenRow 1 rs ≡ ruleText signals rows rs
+unfolding writtenBody
+counts-front signals rows rs = simp append-assoc

@@ -4,10 +4,10 @@ use Prim.Native.Nat.{ℕ}
 use native.Mathlib.Omega.{arith}
 use Rattle.tables.specs.Kind.{kindAt, wordOf}
 use Rattle.text.specs.Written.{decimal}
 use Rattle.writing.proofs.Texts.{wrote-both, wrote-is}
 use borrow.Author.Needs.{needs}
-use Rattle.writing.proofs.row.put_row.Statement.{statement}
-use Rattle.writing.proofs.row.put_row.Tie as tie
+use Rattle.row_writer.proofs.row.put_row.Statement.{statement}
+use Rattle.row_writer.proofs.row.put_row.Tie as tie
 
 returns : tie.Need-returns
 returns c =

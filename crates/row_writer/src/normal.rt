@@ -5,12 +5,12 @@ ghost use lib.ListN.{length};
 ghost use Rattle.text.specs.Written.{writtenBody};
 ghost use Rattle.rule_file.specs.Written.{ruleText};
 ghost use Rattle.rule_row.specs.Written.{writtenRow};
 ghost use Rattle.writing.specs.Lent.{Wrote};
-ghost use Rattle.writing.specs.Normal.{rowsOf, writtenNormal};
-use crate::put::put;
-use crate::put::put_byte;
-use crate::put::put_number;
+ghost use Rattle.row_writer.specs.Normal.{rowsOf, writtenNormal};
 use tables::row::NormalForm;
+use writing::put::put;
+use writing::put::put_byte;
+use writing::put::put_number;
 
 // The lines of all rows.
 fn put_rows(buf: &mut [u8], at: usize, form: NormalForm) -> usize

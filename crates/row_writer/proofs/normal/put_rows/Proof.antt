@@ -3,10 +3,10 @@ use mathlib.Core.Path.{_≡_, sym, _∙_}
 use native.Mathlib.Omega.{arith}
 use lib.ListN.{length, length-map}
 use Rattle.rule_file.specs.Rule.{inPlace, unused}
-use Rattle.writing.proofs.Rows.{RowsAt, rows-start, rows-more, rows-end}
+use Rattle.row_writer.proofs.Rows.{RowsAt, rows-start, rows-more, rows-end}
 use borrow.Author.Needs.{needs}
-use Rattle.writing.proofs.normal.put_rows.Statement.{statement}
-use Rattle.writing.proofs.normal.put_rows.Tie as tie
+use Rattle.row_writer.proofs.normal.put_rows.Statement.{statement}
+use Rattle.row_writer.proofs.normal.put_rows.Tie as tie
 
 abbrev Inv-loop : tie.InvT-loop
 Inv-loop buf₀ at form i₀ k₀ buf i k = RowsAt (form .rows) (form .places) buf₀ at k buf i

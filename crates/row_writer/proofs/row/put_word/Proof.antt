@@ -5,10 +5,10 @@ use lib.ListN.{length}
 use lib.Seq.{length-take-le}
 use Rattle.tables.specs.Kind.{wordOf}
 use Rattle.tables.proofs.KindTable.{word-fits, word-short}
 use Rattle.writing.proofs.Texts.{wrote-is}
 use borrow.Author.Needs.{needs}
-use Rattle.writing.proofs.row.put_word.Statement.{statement}
-use Rattle.writing.proofs.row.put_word.Tie as tie
+use Rattle.row_writer.proofs.row.put_word.Statement.{statement}
+use Rattle.row_writer.proofs.row.put_word.Tie as tie
 
 array-share-prefix-bytes : tie.Need-array-share-prefix-bytes
 array-share-prefix-bytes c = rw (c .before .before .kind-at .ensures) (word-fits _ (c .before .before .before .before .pre .0))

@@ -1,9 +1,9 @@
 use native.Mathlib.Omega.{arith}
 use Rattle.text.specs.Written.{decimal, decimalIn, writtenBody}
 use Rattle.writing.proofs.Texts.{wrote-both}
 use borrow.Author.Needs.{needs}
-use Rattle.writing.proofs.normal.put_counts.Statement.{statement}
-use Rattle.writing.proofs.normal.put_counts.Tie as tie
+use Rattle.row_writer.proofs.normal.put_counts.Statement.{statement}
+use Rattle.row_writer.proofs.normal.put_counts.Tie as tie
 
 returns : tie.Need-returns
 unfolding decimal decimalIn writtenBody

@@ -1,8 +1,9 @@
-use Rattle.writing.specs.Normal.{rowsOf, writtenNormal}
-use Rattle.writing.proofs.Texts.{wrote-both, wrote-is, counts-front}
+use Rattle.row_writer.specs.Normal.{rowsOf, writtenNormal}
+use Rattle.writing.proofs.Texts.{wrote-both, wrote-is}
+use Rattle.row_writer.proofs.Rows.{counts-front}
 use borrow.Author.Needs.{needs}
-use Rattle.writing.proofs.normal.put_normal.Statement.{statement}
-use Rattle.writing.proofs.normal.put_normal.Tie as tie
+use Rattle.row_writer.proofs.normal.put_normal.Statement.{statement}
+use Rattle.row_writer.proofs.normal.put_normal.Tie as tie
 
 returns : tie.Need-returns
 unfolding writtenNormal

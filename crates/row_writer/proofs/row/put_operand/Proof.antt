@@ -1,8 +1,8 @@
 use native.Mathlib.Omega.{arith}
 use Rattle.writing.proofs.Texts.{wrote-both}
 use borrow.Author.Needs.{needs}
-use Rattle.writing.proofs.row.put_operand.Statement.{statement}
-use Rattle.writing.proofs.row.put_operand.Tie as tie
+use Rattle.row_writer.proofs.row.put_operand.Statement.{statement}
+use Rattle.row_writer.proofs.row.put_operand.Tie as tie
 
 returns : tie.Need-returns
 returns c =

@@ -5,11 +5,11 @@ ghost use lib.ListN.{length};
 ghost use Rattle.tables.specs.Kind.{kindAt, kindCount, wordOf};
 ghost use Rattle.text.specs.Written.{decimal, writtenLine};
 ghost use Rattle.rule_row.specs.Written.{writtenRow};
 ghost use Rattle.writing.specs.Lent.{Wrote};
-use crate::put::put_byte;
-use crate::put::put_number;
 use tables::kind;
 use tables::row::Row;
+use writing::put::put_byte;
+use writing::put::put_number;
 
 // The word of the kind at a place of the table.
 fn put_word(buf: &mut [u8], at: usize, place: usize) -> usize
@@ -20,7 +20,7 @@ fn put_word(buf: &mut [u8], at: usize, place: usize) -> usize
     let kind = kind::kind_at(place);
     let bytes = kind.word;
     let n = kind.length;
-    crate::put::put(buf, at, &bytes[..n])
+    writing::put::put(buf, at, &bytes[..n])
 }
 
 // A space and a number.
