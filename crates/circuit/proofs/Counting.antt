@@ -17,25 +17,25 @@ Apart m f = (i j : ℕ) → i < j → j < m → ¬ (f i ≡ f j)
 
 -- the number m, where it stands among the first m, changes its place with the number behind them
 module _ (m : ℕ) (f : ℕ → ℕ) where
-  abbrev placed : (i : ℕ) → Dec (f i ≡ m) → ℕ
-  placed i (yes e) = f m
-  placed i (no e) = f i
+  abbrev moved : (i : ℕ) → Dec (f i ≡ m) → ℕ
+  moved i (yes e) = f m
+  moved i (no e) = f i
 
   abbrev changed : ℕ → ℕ
-  changed i = placed i (ℕ-discrete (f i) m)
+  changed i = moved i (ℕ-discrete (f i) m)
 
   module _ (below : Below (suc m) f) (apart : Apart (suc m) f) where
     changed-below : Below m changed
     changed-below i h = by (ℕ-discrete (f i) m)
       where
-        by : (d : Dec (f i ≡ m)) → placed i d < m
+        by : (d : Dec (f i ≡ m)) → moved i d < m
         by (yes e) = let n : ¬ (f m ≡ m) = λ q. apart i m h (omega arith) (e ∙ sym q) in omega (arith, below m (omega arith))
         by (no e) = omega (arith, below i (omega arith))
 
     changed-apart : Apart m changed
     changed-apart i j l h = by (ℕ-discrete (f i) m) (ℕ-discrete (f j) m)
       where
-        by : (d : Dec (f i ≡ m)) (e : Dec (f j ≡ m)) → ¬ (placed i d ≡ placed j e)
+        by : (d : Dec (f i ≡ m)) (e : Dec (f j ≡ m)) → ¬ (moved i d ≡ moved j e)
         by (yes d) (yes e) q = apart i j l (omega arith) (d ∙ sym e)
         by (yes d) (no e) q = apart j m h (omega arith) (sym q)
         by (no d) (yes e) q = apart i m (omega arith) (omega arith) q
@@ -45,7 +45,7 @@ module _ (m : ℕ) (f : ℕ → ℕ) where
     unchanged : (i x : ℕ) → i < m → changed i ≡ x → (j : ℕ) × (j < suc m) × (f j ≡ x)
     unchanged i x h = by (ℕ-discrete (f i) m)
       where
-        by : (d : Dec (f i ≡ m)) → placed i d ≡ x → (j : ℕ) × (j < suc m) × (f j ≡ x)
+        by : (d : Dec (f i ≡ m)) → moved i d ≡ x → (j : ℕ) × (j < suc m) × (f j ≡ x)
         by (yes e) q = (m, omega arith, q)
         by (no e) q = (i, omega arith, q)
 
@@ -56,7 +56,7 @@ module _ (m : ℕ) (f : ℕ → ℕ) where
         by : (i : ℕ) → i < m → changed i ≡ f m → (j : ℕ) × (j < suc m) × (f j ≡ m)
         by i h = go (ℕ-discrete (f i) m)
           where
-            go : (d : Dec (f i ≡ m)) → placed i d ≡ f m → (j : ℕ) × (j < suc m) × (f j ≡ m)
+            go : (d : Dec (f i ≡ m)) → moved i d ≡ f m → (j : ℕ) × (j < suc m) × (f j ≡ m)
             go (yes d) q = (i, omega arith, d)
             go (no d) q = absurd (apart i m h (omega arith) q)
 

@@ -1,21 +1,52 @@
 -- Two circuits of the format report, its or-gate and its toggle flip-flop: the definitions give what they are named for. Assumes nothing.
 use Prim.Native.Nat.{ℕ, zero, suc, _≤_, _<_}
 use mathlib.Core.Path.{_≡_, refl, ap, ap₂, _∙_}
-use mathlib.Core.Bool.{Bool, true, false, not, _&&_, _||_}
+use mathlib.Core.Bool.{Bool, false, not, _&&_, _||_}
 use mathlib.Core.List.{[], _∷_}
 use native.Mathlib.Omega.{arith}
 use lib.ListN.{getD}
-use Rattle.circuit.specs.Circuit.{Circuit, latchAt, WellFormed}
+use Rattle.circuit.specs.Circuit.{Circuit, latchAt, gateAt, IsVariable, WellFormed}
 use Rattle.circuit.specs.Valuation.{Valuation, IsValuation, outputValues, latchIn, IsRun}
+use Rattle.circuit.proofs.Inverters.{either}
 
 -- `aag 3 2 0 1 1`, then `2`, `4`, `7`, `6 3 5`
 abbrev pub orGate : Circuit
 orGate = record { inputs = 2 ∷ 4 ∷ []; latches = []; outputs = 7 ∷ []; gates = record { lhs = 6; rhs0 = 3; rhs1 = 5 } ∷ [] }
 
-either : (a b : Bool) → not (not a && not b) ≡ a || b
-either true b = refl
-either false true = refl
-either false false = refl
+pub or-formed : WellFormed orGate
+or-formed =
+    record {
+      variables = λ i h. variable i h;
+      once = λ i j l h. apart i j l h;
+      nexts = λ i h. absurd (omega arith);
+      named = λ i h. output i h;
+      lower = λ i h. gate i h;
+    }
+  where
+    variable : (i : ℕ) → i < 3 → IsVariable 3 (getD (2 ∷ 4 ∷ 6 ∷ []) i 0)
+    variable zero h = record { index = 1; least = omega arith; most = omega arith; even = refl }
+    variable (suc zero) h = record { index = 2; least = omega arith; most = omega arith; even = refl }
+    variable (suc (suc zero)) h = record { index = 3; least = omega arith; most = omega arith; even = refl }
+    variable (suc (suc (suc i))) h = absurd (omega arith)
+
+    apart : (i j : ℕ) → i < j → j < 3 → ¬ (_≡_ {A = ℕ} (getD (2 ∷ 4 ∷ 6 ∷ []) i 0) (getD (2 ∷ 4 ∷ 6 ∷ []) j 0))
+    apart zero zero l h e = omega arith
+    apart zero (suc zero) l h e = omega arith
+    apart zero (suc (suc zero)) l h e = omega arith
+    apart zero (suc (suc (suc j))) l h e = omega arith
+    apart (suc zero) zero l h e = omega arith
+    apart (suc zero) (suc zero) l h e = omega arith
+    apart (suc zero) (suc (suc zero)) l h e = omega arith
+    apart (suc zero) (suc (suc (suc j))) l h e = omega arith
+    apart (suc (suc i)) j l h e = omega arith
+
+    output : (i : ℕ) → i < 1 → getD (7 ∷ []) i 0 ≤ 7
+    output zero h = omega arith
+    output (suc i) h = absurd (omega arith)
+
+    gate : (i : ℕ) → i < 1 → (gateAt orGate i .rhs0 < gateAt orGate i .lhs) × (gateAt orGate i .rhs1 < gateAt orGate i .lhs)
+    gate zero h = (omega arith, omega arith)
+    gate (suc i) h = absurd (omega arith)
 
 pub or-values : (inputs latches : ℕ → Bool) (v : Valuation) → IsValuation orGate inputs latches v → outputValues orGate v ≡ (inputs 0 || inputs 1) ∷ []
 or-values inputs latches v e =

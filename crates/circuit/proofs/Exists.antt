@@ -6,8 +6,8 @@ use native.Mathlib.Omega.{arith}
 use Rattle.circuit.specs.Circuit.{Circuit, latchAt, maximum, WellFormed}
 use Rattle.circuit.specs.Valuation.{Valuation, IsValuation, latchIn, IsRun}
 use Rattle.circuit.proofs.Defined.{Definition, each-defined, defined-once, defined-variable}
-use Rattle.circuit.proofs.Literals.{Literal, literal}
-use Rattle.circuit.proofs.Given.{given, given-local, given-valuation}
+use Rattle.circuit.proofs.Literals.{Literal, literalKind}
+use Rattle.circuit.proofs.Given.{definedValue, given-local, given-valuation}
 use Rattle.circuit.proofs.Recursion.{ruled, ruled-by}
 
 module _ (c : Circuit) (formed : WellFormed c) where
@@ -16,15 +16,15 @@ module _ (c : Circuit) (formed : WellFormed c) where
     named : Valuation → (l : ℕ) → Literal (maximum c) l → Bool
     named v l (Literal.constant e) = false
     named v l (Literal.negated x e) = not (v (2 * x))
-    named v l (Literal.variable x least most e) = given inputs latches v (each-defined c formed x least most)
+    named v l (Literal.variable x least most e) = definedValue inputs latches v (each-defined c formed x least most)
     named v l (Literal.beyond x m e) = false
 
     abbrev rule : Valuation → Valuation
-    rule v l = named v l (literal (maximum c) l)
+    rule v l = named v l (literalKind (maximum c) l)
 
     local : (v w : Valuation) (l : ℕ) → ((k : ℕ) → k < l → v k ≡ w k) → rule v l ≡ rule w l
     unfolding named
-    local v w l lower = by (literal (maximum c) l)
+    local v w l lower = by (literalKind (maximum c) l)
       where
         by : (k : Literal (maximum c) l) → named v l k ≡ named w l k
         by (Literal.constant e) = refl
@@ -49,13 +49,13 @@ module _ (c : Circuit) (formed : WellFormed c) where
       at-negated x (Literal.variable y least most e) = absurd (omega arith)
       at-negated x (Literal.beyond y m e) = absurd (omega arith)
 
-      at-variable : (x : ℕ) (d : Definition c x) (k : Literal (maximum c) (2 * x)) → named v (2 * x) k ≡ given inputs latches v d
+      at-variable : (x : ℕ) (d : Definition c x) (k : Literal (maximum c) (2 * x)) → named v (2 * x) k ≡ definedValue inputs latches v d
       unfolding named
       at-variable x d (Literal.constant e) = let r = defined-variable c formed x d in absurd (omega arith)
       at-variable x d (Literal.negated y e) = absurd (omega arith)
       at-variable x d (Literal.variable y least most e) =
-          subst (λ z. (p : 1 ≤ z) (q : z ≤ maximum c) → given inputs latches v (each-defined c formed z p q) ≡ given inputs latches v d) same
-          (λ p q. ap (given inputs latches v) (defined-once c formed x (each-defined c formed x p q) d)) least most
+          subst (λ z. (p : 1 ≤ z) (q : z ≤ maximum c) → definedValue inputs latches v (each-defined c formed z p q) ≡ definedValue inputs latches v d) same
+          (λ p q. ap (definedValue inputs latches v) (defined-once c formed x (each-defined c formed x p q) d)) least most
         where
           same : x ≡ y
           same = omega arith
@@ -67,9 +67,9 @@ module _ (c : Circuit) (formed : WellFormed c) where
     values-are : IsValuation c inputs latches values
     unfolding values
     values-are = given-valuation c inputs latches formed values
-        (ruled-by rule false local 0 ∙ at-constant values (literal (maximum c) 0))
-        (λ x. ruled-by rule false local (2 * x + 1) ∙ at-negated values x (literal (maximum c) (2 * x + 1)))
-        (λ x d. ruled-by rule false local (2 * x) ∙ at-variable values x d (literal (maximum c) (2 * x)))
+        (ruled-by rule false local 0 ∙ at-constant values (literalKind (maximum c) 0))
+        (λ x. ruled-by rule false local (2 * x + 1) ∙ at-negated values x (literalKind (maximum c) (2 * x + 1)))
+        (λ x d. ruled-by rule false local (2 * x) ∙ at-variable values x d (literalKind (maximum c) (2 * x)))
 
 -- THE VALUES ARE THERE
 pub values-exist : (c : Circuit) → WellFormed c → (inputs latches : ℕ → Bool) → (v : Valuation) × IsValuation c inputs latches v

@@ -1,3 +1,5 @@
+pub mod Inverters
+pub mod Examples
 pub mod Counting
 pub mod Defined
 pub mod Literals
@@ -5,4 +7,3 @@ pub mod Given
 pub mod Recursion
 pub mod Only
 pub mod Exists
-pub mod Examples

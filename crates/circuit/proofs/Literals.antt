@@ -11,8 +11,8 @@ pub data Literal (m l : ℕ) : Type 0 where
   variable : (x : ℕ) → 1 ≤ x → x ≤ m → l ≡ 2 * x → Literal m l
   beyond : (x : ℕ) → m < x → l ≡ 2 * x → Literal m l
 
-pub literal : (m l : ℕ) → Literal m l
-literal m l = by (ℕ-discrete (l % 2) 0) (ℕ-discrete l 0) (decLe (l / 2) m)
+pub literalKind : (m l : ℕ) → Literal m l
+literalKind m l = by (ℕ-discrete (l % 2) 0) (ℕ-discrete l 0) (decLe (l / 2) m)
   where
     by : Dec (l % 2 ≡ 0) → Dec (l ≡ 0) → Dec (l / 2 ≤ m) → Literal m l
     by (no a) b d = Literal.negated (l / 2) (omega arith)

@@ -7,7 +7,7 @@ use lib.ListN.{length}
 use Rattle.circuit.specs.Circuit.{Circuit, latchAt, maximum, IsLiteral, WellFormed}
 use Rattle.circuit.specs.Valuation.{Valuation, IsValuation, latchIn, IsRun}
 use Rattle.circuit.proofs.Defined.{each-defined}
-use Rattle.circuit.proofs.Literals.{Literal, literal}
+use Rattle.circuit.proofs.Literals.{Literal, literalKind}
 use Rattle.circuit.proofs.Given.{value-given, given-local}
 use Rattle.circuit.proofs.Recursion.{from-lower}
 
@@ -18,7 +18,7 @@ module _ (c : Circuit) (formed : WellFormed c) where
       → ((i : ℕ) → i < length (c .latches) → latches i ≡ latches′ i) → (v w : Valuation) → IsValuation c inputs latches v
       → IsValuation c inputs′ latches′ w → (l : ℕ) → IsLiteral (maximum c) l → v l ≡ w l
   values-agree inputs inputs′ latches latches′ same-inputs same-latches v w of-v of-w =
-      from-lower (λ l. IsLiteral (maximum c) l → v l ≡ w l) (λ l lower h. by l lower h (literal (maximum c) l))
+      from-lower (λ l. IsLiteral (maximum c) l → v l ≡ w l) (λ l lower h. by l lower h (literalKind (maximum c) l))
     where
       by : (l : ℕ) → ((k : ℕ) → k < l → IsLiteral (maximum c) k → v k ≡ w k) → IsLiteral (maximum c) l → Literal (maximum c) l → v l ≡ w l
       by l lower h (Literal.constant e) = rw e (of-v .constant ∙ sym (of-w .constant))

@@ -25,7 +25,7 @@ outputValues c v = map v (c .outputs)
 abbrev pub nextLatches : Circuit → Valuation → List Bool
 nextLatches c v = map (λ (q : Latch). v (q .next)) (c .latches)
 
--- "one latch a row, starting at 0": latch k in cycle i of a run with these values
+-- latches start at 0: latch k in cycle i of a run with these values
 unfoldable pub latchIn : Circuit → (ℕ → Valuation) → ℕ → ℕ → Bool
 latchIn c values zero k = false
 latchIn c values (suc i) k = values i (latchAt c k .next)

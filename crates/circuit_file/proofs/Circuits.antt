@@ -10,14 +10,14 @@ use Rattle.text.specs.Result.Result.{accepted}
 use Rattle.text.proofs.Headers.{map-accepted}
 use Rattle.circuit.specs.Circuit.{Latch, Gate, Circuit, maximum, WellFormed}
 use Rattle.circuit_line.specs.Section.{sectionOf}
-use Rattle.circuit_file.specs.File.{Listing, headerFrom, listingOf, latchFrom, gateFrom, circuitFrom, parseListing, parseCircuit}
+use Rattle.circuit_file.specs.File.{Contents, headerFrom, contentsOf, latchFrom, gateFrom, circuitFrom, parseContents, parseCircuit}
 use Rattle.circuit_file.specs.Written.{writtenLines, headerOf, linesOf, writtenCircuit}
 use Rattle.circuit_file.proofs.Possible.{Possible}
 use Rattle.circuit_file.proofs.Blocks.{Blocks, to-blocks}
 use Rattle.circuit_file.proofs.Shapes.{oneLine, latchLine, gateLine, inputs-shaped, latches-shaped, outputs-shaped, gates-shaped}
 use Rattle.circuit_file.proofs.Formed.{formed-possible, possible-formed}
 use Rattle.circuit_file.proofs.FirstLine.{numbersOf, headerText}
-use Rattle.circuit_file.proofs.Listings.{writtenListing, ListingOk, listing-written, listing-read}
+use Rattle.circuit_file.proofs.Contents.{writtenContents, ContentsOk, contents-written, contents-read}
 
 -- ---- the four parts of a list
 
@@ -43,13 +43,13 @@ four-parts i l n w =
     ∙ (ap (λ s. take i w ++ (take l (drop i w) ++ s)) (take-append-drop n (drop (i + l) w) ∙ sym (drop-drop l i w))
     ∙ (ap (λ s. take i w ++ s) (take-append-drop l (drop i w)) ∙ take-append-drop i w))
 
--- ---- a circuit and its listing
+-- ---- a circuit and its contents
 
-abbrev pub listingFrom : Circuit → Listing
-listingFrom c = listingOf (headerFrom (headerOf c)) (linesOf c)
+abbrev pub contentsFrom : Circuit → Contents
+contentsFrom c = contentsOf (headerFrom (headerOf c)) (linesOf c)
 
 -- the file is the same
-pub written-same : (c : Circuit) → writtenCircuit c ≡ writtenListing (listingFrom c)
+pub written-same : (c : Circuit) → writtenCircuit c ≡ writtenContents (contentsFrom c)
 unfolding writtenCircuit writtenLines
 written-same c = refl
 
@@ -57,16 +57,16 @@ map-back : {A B : Type 0} (f : A → B) (g : B → A) → ((x : A) → g (f x) �
 map-back f g own [] = refl
 map-back f g own (x ∷ xs) = ap₂ _∷_ (own x) (map-back f g own xs)
 
-circuitOf : List ℕ → List Latch → List ℕ → List Gate → Circuit
-circuitOf a b o g = record { inputs = a; latches = b; outputs = o; gates = g }
+assembled : List ℕ → List Latch → List ℕ → List Gate → Circuit
+assembled a b o g = record { inputs = a; latches = b; outputs = o; gates = g }
 
-same-parts : {a a′ : List ℕ} {b b′ : List Latch} {o o′ : List ℕ} {g g′ : List Gate} → a ≡ a′ → b ≡ b′ → o ≡ o′ → g ≡ g′ → circuitOf a b o g ≡ circuitOf a′ b′ o′ g′
+same-parts : {a a′ : List ℕ} {b b′ : List Latch} {o o′ : List ℕ} {g g′ : List Gate} → a ≡ a′ → b ≡ b′ → o ≡ o′ → g ≡ g′ → assembled a b o g ≡ assembled a′ b′ o′ g′
 same-parts p q r s = rw (p, q, r, s)
 
--- the circuit of a circuit's listing is the circuit
-pub listing-circuit : (c : Circuit) → circuitFrom (listingFrom c) ≡ c
-unfolding circuitOf
-listing-circuit c =
+-- the circuit of a circuit's contents is the circuit
+pub contents-circuit : (c : Circuit) → circuitFrom (contentsFrom c) ≡ c
+unfolding assembled
+contents-circuit c =
     let a : List (List ℕ) = map oneLine (c .inputs) in
     let b : List (List ℕ) = map latchLine (c .latches) in
     let o : List (List ℕ) = map oneLine (c .outputs) in
@@ -80,33 +80,33 @@ listing-circuit c =
     (ap (map (λ xs. getD xs 0 0)) (part-three a b o g (length (c .inputs)) (length (c .latches)) (length (c .outputs)) i l n) ∙ map-back oneLine (λ xs. getD xs 0 0) (λ x. refl) (c .outputs))
     (ap (map gateFrom) (part-four a b o g (length (c .inputs)) (length (c .latches)) (length (c .outputs)) i l n) ∙ map-back gateLine gateFrom (λ x. refl) (c .gates))
 
--- a well-formed circuit's listing is one that a file can say
-pub circuit-listing : (c : Circuit) → WellFormed c → ListingOk (listingFrom c)
-circuit-listing c w =
+-- a well-formed circuit's contents is one that a file can say
+pub circuit-contents : (c : Circuit) → WellFormed c → ContentsOk (contentsFrom c)
+circuit-contents c w =
     record {
       sums = refl;
       count = simp (length-append, length-map) (omega arith);
       possible = formed-possible c (headerFrom (headerOf c)) refl refl refl w;
     }
 
--- ---- a listing and its circuit
+-- ---- a contents and its circuit
 
-abbrev inputLines : Listing → List (List ℕ)
+abbrev inputLines : Contents → List (List ℕ)
 inputLines t = take (t .header .inputs) (t .lines)
 
-abbrev latchLines : Listing → List (List ℕ)
+abbrev latchLines : Contents → List (List ℕ)
 latchLines t = take (t .header .latches) (drop (t .header .inputs) (t .lines))
 
-abbrev outputLines : Listing → List (List ℕ)
+abbrev outputLines : Contents → List (List ℕ)
 outputLines t = take (t .header .outputs) (drop (t .header .inputs + t .header .latches) (t .lines))
 
-abbrev gateLines : Listing → List (List ℕ)
+abbrev gateLines : Contents → List (List ℕ)
 gateLines t = drop (t .header .inputs + t .header .latches + t .header .outputs) (t .lines)
 
-parts-same : (t : Listing) → joined (inputLines t) (latchLines t) (outputLines t) (gateLines t) ≡ t .lines
+parts-same : (t : Contents) → joined (inputLines t) (latchLines t) (outputLines t) (gateLines t) ≡ t .lines
 parts-same t = four-parts (t .header .inputs) (t .header .latches) (t .header .outputs) (t .lines)
 
-module _ (t : Listing) (ok : ListingOk t) where
+module _ (t : Contents) (ok : ContentsOk t) where
   count-inputs : length (inputLines t) ≡ t .header .inputs
   count-inputs = length-take-le (t .header .inputs) (t .lines) (omega (arith, ok .count))
 
@@ -154,12 +154,12 @@ module _ (t : Listing) (ok : ListingOk t) where
   pub header-same : headerOf (circuitFrom t) ≡ numbersOf (t .header)
   header-same = ap₂ _∷_ maximum-same (ap₂ _∷_ inputs-same (ap₂ _∷_ latches-same (ap₂ _∷_ outputs-same (ap (λ n. n ∷ []) gates-same))))
 
-  pub listing-same : writtenListing t ≡ writtenCircuit (circuitFrom t)
+  pub contents-same : writtenContents t ≡ writtenCircuit (circuitFrom t)
   unfolding writtenCircuit writtenLines
-  listing-same = sym (ap₂ (λ xs xss. headerText xs ++ (10 ∷ writtenLines xss)) header-same lines-same)
+  contents-same = sym (ap₂ (λ xs xss. headerText xs ++ (10 ∷ writtenLines xss)) header-same lines-same)
 
-  pub listing-formed : WellFormed (circuitFrom t)
-  listing-formed =
+  pub contents-formed : WellFormed (circuitFrom t)
+  contents-formed =
       possible-formed (circuitFrom t) (t .header) inputs-same latches-same outputs-same
       (subst (λ m. Possible m (sectionOf (t .header)) 0 [] (linesOf (circuitFrom t))) (sym maximum-same)
       (subst (Possible (t .header .maximum) (sectionOf (t .header)) 0 []) (sym lines-same) (ok .possible)))
@@ -169,22 +169,22 @@ module _ (t : Listing) (ok : ListingOk t) where
 -- WHAT IS READ IS WELL FORMED AND IS WRITTEN SO: an accepted file is the written form of its circuit, byte for byte
 pub circuit-read : (file : List ℕ) (c : Circuit) → parseCircuit file ≡ accepted c → (file ≡ writtenCircuit c) × WellFormed c
 circuit-read file c e =
-    let w = map-accepted circuitFrom (parseListing file) c e in
-    let r = listing-read file (w .0) (w .1) in
-    subst (λ c. (file ≡ writtenCircuit c) × WellFormed c) (w .2) (r .whole ∙ listing-same (w .0) (r .ok), listing-formed (w .0) (r .ok))
+    let w = map-accepted circuitFrom (parseContents file) c e in
+    let r = contents-read file (w .0) (w .1) in
+    subst (λ c. (file ≡ writtenCircuit c) × WellFormed c) (w .2) (r .whole ∙ contents-same (w .0) (r .ok), contents-formed (w .0) (r .ok))
 
 -- and it has 65,536 bytes at most
 pub circuit-short : (file : List ℕ) (c : Circuit) → parseCircuit file ≡ accepted c → length file ≤ 65536
 circuit-short file c e =
-    let w = map-accepted circuitFrom (parseListing file) c e in
-    listing-read file (w .0) (w .1) .short
+    let w = map-accepted circuitFrom (parseContents file) c e in
+    contents-read file (w .0) (w .1) .short
 
 -- WHAT IS WRITTEN IS READ BACK
 pub circuit-written : (c : Circuit) → WellFormed c → length (writtenCircuit c) ≤ 65536 → parseCircuit (writtenCircuit c) ≡ accepted c
 circuit-written c w h =
-    let l : parseListing (writtenListing (listingFrom c)) ≡ accepted (listingFrom c) =
-    listing-written (listingFrom c) (circuit-listing c w) (subst (λ s. length s ≤ 65536) (written-same c) h) in
-    ap parseCircuit (written-same c) ∙ (ap (mapResult circuitFrom) l ∙ ap accepted (listing-circuit c))
+    let l : parseContents (writtenContents (contentsFrom c)) ≡ accepted (contentsFrom c) =
+    contents-written (contentsFrom c) (circuit-contents c w) (subst (λ s. length s ≤ 65536) (written-same c) h) in
+    ap parseCircuit (written-same c) ∙ (ap (mapResult circuitFrom) l ∙ ap accepted (contents-circuit c))
 
 -- A FILE SAYS ONE CIRCUIT
 pub circuit-once : (c d : Circuit) → WellFormed c → WellFormed d → length (writtenCircuit c) ≤ 65536 → length (writtenCircuit d) ≤ 65536

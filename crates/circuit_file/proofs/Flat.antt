@@ -73,7 +73,7 @@ module _ (n : ℕ) (xs ys : List ℕ) (short : length ys ≤ 3) (h : length xs +
       let p2 = rw (take-all 3 ys short) at (placed-part xs ys 0 2 n (λ x. x) h) in
       rw (p0, p1, p2)
 
-  pub numbers-more : {numbers : List ℕ} {used a b c : ℕ} → numbers ≡ placed n (λ x. x) 0 xs → used ≡ length xs
+  pub stores-more : {numbers : List ℕ} {used a b c : ℕ} → numbers ≡ placed n (λ x. x) 0 xs → used ≡ length xs
       → getD ys 0 0 ≡ a → getD ys 1 0 ≡ b → getD ys 2 0 ≡ c
       → set (set (set numbers used a) (used + 1) b) (used + 2) c ≡ placed n (λ x. x) 0 (xs ++ ys)
-  numbers-more e u ea eb ec = rw (e, u, ← ea, ← eb, ← ec) three-placed
+  stores-more e u ea eb ec = rw (e, u, ← ea, ← eb, ← ec) three-placed

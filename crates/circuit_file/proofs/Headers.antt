@@ -20,7 +20,7 @@ use Rattle.circuit_line.specs.Numbers.{numberList, numbersAs, plainLine}
 use Rattle.circuit_line.specs.declared.numbers.Numbers.{Numbers}
 use Rattle.circuit_line.specs.declared.section.Header.{Header}
 use Rattle.circuit_line.proofs.NumberLines.{plain-bad, plain-good, numbers-not, numbers-are}
-use Rattle.circuit_file.specs.File.{HeaderWithin, SmallHeader, circuitLines, headerAs, headerForm, headerFrom, linesIn, listingOf, parseListing}
+use Rattle.circuit_file.specs.File.{HeaderWithin, SmallHeader, circuitLines, headerAs, headerForm, headerFrom, linesIn, contentsOf, parseContents}
 use Rattle.circuit_file.specs.declared.HeaderRead.{HeaderRead}
 use Rattle.circuit_file.specs.declared.HeaderRead.the-variants.{Header as HeaderIs, Wrong}
 
@@ -73,15 +73,15 @@ module _ (file : List ℕ) {end : ℕ} (q : firstOf 10 file ≡ At end) where
 pub header-known : (file : List ℕ) {r : HeaderRead} {h : Header} {next : ℕ} → HeaderWithin file r → r ≡ HeaderIs h next → SmallHeader h × (next ≤ length file)
 header-known file w e = subst (HeaderWithin file) e w
 
-pub listing-long : (file : List ℕ) → 65536 < length file → parseListing file ≡ refused TooLong 0
-unfolding parseListing
-listing-long file l = rw (lt-ltb 65536 (length file) l)
+pub contents-long : (file : List ℕ) → 65536 < length file → parseContents file ≡ refused TooLong 0
+unfolding parseContents
+contents-long file l = rw (lt-ltb 65536 (length file) l)
 
 module _ (file : List ℕ) (l : length file ≤ 65536) {r : HeaderRead} (e : headerAs r ≡ plainLine headerForm file) where
-  pub listing-headless : r ≡ Wrong → parseListing file ≡ refused WrongForm 1
-  unfolding parseListing
-  listing-headless q = rw (le-ltb 65536 (length file) l, ← e, q)
+  pub contents-headless : r ≡ Wrong → parseContents file ≡ refused WrongForm 1
+  unfolding parseContents
+  contents-headless q = rw (le-ltb 65536 (length file) l, ← e, q)
 
-  pub listing-lines : {h : Header} {next : ℕ} → r ≡ HeaderIs h next → parseListing file ≡ mapResult (listingOf h) (circuitLines h (linesIn h) [] [] (drop next file))
-  unfolding parseListing
-  listing-lines q = rw (le-ltb 65536 (length file) l, ← e, q)
+  pub contents-lines : {h : Header} {next : ℕ} → r ≡ HeaderIs h next → parseContents file ≡ mapResult (contentsOf h) (circuitLines h (linesIn h) [] [] (drop next file))
+  unfolding parseContents
+  contents-lines q = rw (le-ltb 65536 (length file) l, ← e, q)

@@ -8,6 +8,6 @@ pub mod Blocks
 pub mod Shapes
 pub mod Formed
 pub mod FirstLine
-pub mod Listings
+pub mod Contents
 pub mod Circuits
 pub mod Refusals

@@ -15,9 +15,9 @@ use Rattle.circuit_line.specs.Section.{isDefined, isVariable, isNew}
 
 -- ---- two tests
 
-pub both : (a b : Bool) → a && b ≡ true → (a ≡ true) × (b ≡ true)
-both true b e = (refl, e)
-both false b e = clash (cc)
+pub both-on : (a b : Bool) → a && b ≡ true → (a ≡ true) × (b ≡ true)
+both-on true b e = (refl, e)
+both-on false b e = clash (cc)
 
 pub both-true : (a b : Bool) → a ≡ true → b ≡ true → a && b ≡ true
 both-true a b p q = rw (p, q)
@@ -26,8 +26,8 @@ both-true a b p q = rw (p, q)
 
 pub variable-true : (m l : ℕ) → isVariable m l ≡ true → IsVariable m l
 variable-true m l e =
-    let w = both (eqb (l % 2) 0 && leb 2 l) (leb l (2 * m)) e in
-    let v = both (eqb (l % 2) 0) (leb 2 l) (w .0) in
+    let w = both-on (eqb (l % 2) 0 && leb 2 l) (leb l (2 * m)) e in
+    let v = both-on (eqb (l % 2) 0) (leb 2 l) (w .0) in
     let z : l % 2 ≡ 0 = eqb-true (l % 2) 0 (v .0) in
     let a : 2 ≤ l = leb-true 2 l (v .1) in
     let b : l ≤ 2 * m = leb-true l (2 * m) (w .1) in
@@ -77,7 +77,7 @@ new-parts m defined (x ∷ xs) ys a = let w = new-parts m (x ∷ defined) xs ys 
 pub new-at : (m : ℕ) (defined xs : List ℕ) → New m defined xs → (i : ℕ) → i < length xs → IsVariable m (getD xs i 0) × (isDefined defined (getD xs i 0) ≡ false)
 new-at m defined [] a i h = absurd (omega arith)
 new-at m defined (x ∷ xs) a zero h =
-    let w = both (isVariable m x) (not (isDefined defined x)) (a .0) in
+    let w = both-on (isVariable m x) (not (isDefined defined x)) (a .0) in
     (variable-true m x (w .0), not-true (isDefined defined x) (w .1))
 new-at m defined (x ∷ xs) a (suc i) h =
     let w = new-at m (x ∷ defined) xs (a .1) i (omega arith) in

@@ -25,9 +25,9 @@ use Rattle.circuit_line.specs.declared.numbers.LineRead.the-variants.{Line as L
 use Rattle.circuit_line.specs.declared.section.Header.{Header}
 use Rattle.circuit_line.specs.declared.section.Section.{Section}
 use Rattle.circuit_line.proofs.Sections.{form-good, form-not, form-wrong, line-known, possible-even}
-use Rattle.circuit_file.specs.File.{circuitAnswer, circuitLines, flat, linesIn, listingOf}
+use Rattle.circuit_file.specs.File.{circuitAnswer, circuitLines, flat, linesIn, contentsOf}
 use Rattle.circuit_file.specs.declared.CircuitAnswer.{CircuitAnswer}
-use Rattle.circuit_file.proofs.Flat.{flat-more, flat-length, flat-none, numbers-more}
+use Rattle.circuit_file.proofs.Flat.{flat-more, flat-length, flat-none, stores-more}
 
 -- ---- no lines. The length of the marks is a variable here, as that of the numbers in Flat
 
@@ -127,7 +127,7 @@ lines-start {h} {body} =
 
 -- the answer that the lines give
 abbrev Answer : Header → List ℕ → CircuitAnswer
-Answer h body = circuitAnswer (mapResult (listingOf h) (circuitLines h (linesIn h) [] [] body))
+Answer h body = circuitAnswer (mapResult (contentsOf h) (circuitLines h (linesIn h) [] [] body))
 
 module _ {h : Header} {body : List ℕ} {k : ℕ} {numbers : List ℕ} {used : ℕ} {taken : List Bool} {rest : List ℕ} (inv : LinesAt h body k numbers used taken rest) where
   pub numbers-length : length numbers ≡ 32770
@@ -160,7 +160,7 @@ module _ {h : Header} {body : List ℕ} {k : ℕ} {numbers : List ℕ} {used : �
     refused-here q =
         let z = step-refused h (linesIn h - (k + 1)) (inv .done) (inv .defined) rest (subst (λ t. plainLine (lineForm (h .maximum) (inv .defined) t) rest ≡ bad WrongForm) here q) in
         let y : circuitLines h (linesIn h) [] [] body ≡ refused WrongForm (k + 2) = goes-on ∙ (z ∙ ap (λ j. refused WrongForm (j + 2)) (inv .count)) in
-        ap (λ x. circuitAnswer (mapResult (listingOf h) x)) (sym y)
+        ap (λ x. circuitAnswer (mapResult (contentsOf h) x)) (sym y)
 
     module _ {n : ℕ} (en : n ≡ width s) {r : LineRead} (e : lineAs n r ≡ plainLine (numberList n) rest) where
       pub lines-wrong : r ≡ Wrong → circuitAnswer (refused WrongForm (k + 2)) ≡ Answer h body
@@ -199,7 +199,7 @@ module _ {h : Header} {body : List ℕ} {k : ℕ} {numbers : List ℕ} {used : �
                   ∙ (step-more h (linesIn h - (k + 1)) (inv .done) (inv .defined) rest (subst (λ z. plainLine (lineForm (h .maximum) (inv .defined) z) rest ≡ good (record { value = xs; next = next })) here g)
                   ∙ ap (λ z. circuitLines h (linesIn h - (k + 1)) (inv .done ++ (xs ∷ [])) (nowDefined z xs (inv .defined)) (drop next rest)) (sym here));
               same =
-                  numbers-more 32770 (flat (inv .done)) xs (omega arith) m (inv .same) (inv .stored) (line .literal) (line .first) (line .second)
+                  stores-more 32770 (flat (inv .done)) xs (omega arith) m (inv .same) (inv .stored) (line .literal) (line .first) (line .second)
                   ∙ ap (λ zs. placed 32770 (λ x. x) 0 zs) (sym (flat-more (inv .done) xs));
               marks = rw (marked (line .small .0), inv .marks, line .literal, ed) (marks-more 50000 (inv .defined) a v (defines s) even);
             }

@@ -21,7 +21,7 @@ use Rattle.circuit_line.specs.declared.section.Section.{Section}
 use Rattle.circuit_line.specs.Numbers.{numberList, plainLine}
 use Rattle.circuit_line.specs.Section.{sectionOf, width, isDefined, isPossible, lineForm, nowDefined}
 use Rattle.circuit_line.proofs.WrittenNumbers.{PlainOf, plain-read, plain-wrong, numbers-wrong}
-use Rattle.circuit_file.specs.File.{Listing, listingOf, linesIn, headerForm, circuitLines, parseListing}
+use Rattle.circuit_file.specs.File.{Contents, contentsOf, linesIn, headerForm, circuitLines, parseContents}
 use Rattle.circuit_file.specs.Written.{spaced}
 use Rattle.circuit_file.proofs.Possible.{line-numbers, line-two}
 use Rattle.circuit_file.proofs.FirstLine.{header-wrong}
@@ -90,29 +90,29 @@ abbrev pub RefusedAt : List ℕ → Reason → ℕ → Type 0
 RefusedAt file e n = ((65536 < length file) × (e ≡ TooLong) × (n ≡ 0)) ⊎ ((length file ≤ 65536) × (e ≡ WrongForm) × (1 ≤ n) × (n ≤ 32770))
 
 -- A REFUSED FILE IS TOO LONG, AT LINE 0, OR HAS A WRONG FORM AT A LINE FROM 1 TO 32,770
-pub circuit-refused-line : (file : List ℕ) (e : Reason) (n : ℕ) → parseListing file ≡ refused e n → RefusedAt file e n
-unfolding parseListing
+pub circuit-refused-line : (file : List ℕ) (e : Reason) (n : ℕ) → parseContents file ≡ refused e n → RefusedAt file e n
+unfolding parseContents
 circuit-refused-line file e n =
     each-pick P (ltb 65536 (length file)) (λ t q. inl (ltb-true 65536 (length file) t, cc, cc)) (λ t q. by (ltb-false 65536 (length file) t) (subst (WrongBy (4 + length file)) q from-header))
   where
-    P : Result Listing → Type 0
+    P : Result Contents → Type 0
     P r = r ≡ refused e n → RefusedAt file e n
 
-    by : length file ≤ 65536 → WrongBy {A = Listing} (4 + length file) (refused e n) → RefusedAt file e n
+    by : length file ≤ 65536 → WrongBy {A = Contents} (4 + length file) (refused e n) → RefusedAt file e n
     by l w = inr (l, w .0, w .1, omega (arith, w .2))
 
-    from-header : WrongBy (4 + length file) (onLine 1 (plainLine headerForm) file (λ h body. mapResult (listingOf h) (circuitLines h (linesIn h) [] [] body)))
+    from-header : WrongBy (4 + length file) (onLine 1 (plainLine headerForm) file (λ h body. mapResult (contentsOf h) (circuitLines h (linesIn h) [] [] body)))
     from-header =
-        line-wrong (4 + length file) 1 headerForm file (λ h body. mapResult (listingOf h) (circuitLines h (linesIn h) [] [] body)) header-wrong (omega arith) (omega arith)
-        (λ x l. map-wrong (4 + length file) (listingOf (x .value)) (circuitLines (x .value) (linesIn (x .value)) [] [] (drop (x .next) file))
+        line-wrong (4 + length file) 1 headerForm file (λ h body. mapResult (contentsOf h) (circuitLines h (linesIn h) [] [] body)) header-wrong (omega arith) (omega arith)
+        (λ x l. map-wrong (4 + length file) (contentsOf (x .value)) (circuitLines (x .value) (linesIn (x .value)) [] [] (drop (x .next) file))
         (more-wrong (2 * (0 + 2) + length (drop (x .next) file)) (4 + length file) (circuitLines (x .value) (linesIn (x .value)) [] [] (drop (x .next) file))
         (omega (arith, length-drop (x .next) file)) (lines-wrong (x .value) (linesIn (x .value)) [] [] (drop (x .next) file))))
 
 -- the same of the outcome
-pub circuit-outcome-line : (file : List ℕ) (number : ℕ) (x : Refusal) → outcomeOf number (parseListing file) ≡ Refused x → RefusedAt file (x .reason) (x .line)
-circuit-outcome-line file number x = by (parseListing file) (circuit-refused-line file)
+pub circuit-outcome-line : (file : List ℕ) (number : ℕ) (x : Refusal) → outcomeOf number (parseContents file) ≡ Refused x → RefusedAt file (x .reason) (x .line)
+circuit-outcome-line file number x = by (parseContents file) (circuit-refused-line file)
   where
-    by : (r : Result Listing) → ((e : Reason) (n : ℕ) → r ≡ refused e n → RefusedAt file e n) → outcomeOf number r ≡ Refused x → RefusedAt file (x .reason) (x .line)
+    by : (r : Result Contents) → ((e : Reason) (n : ℕ) → r ≡ refused e n → RefusedAt file e n) → outcomeOf number r ≡ Refused x → RefusedAt file (x .reason) (x .line)
     by (accepted t) h q = clash (cc)
     by (refused e n) h q =
         let z : record { reason = e; file = number; line = n } ≡ x = cc in

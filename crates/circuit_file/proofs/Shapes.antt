@@ -14,7 +14,7 @@ use Rattle.circuit_line.specs.declared.section.Section.the-variants.{Inputs, La
 use Rattle.circuit_line.specs.Section.{width, isDefined, isNew, nowDefined}
 use Rattle.circuit_file.specs.File.{latchFrom, gateFrom}
 use Rattle.circuit_file.proofs.Possible.{LineOk}
-use Rattle.circuit_file.proofs.News.{both, both-true, New, pushed}
+use Rattle.circuit_file.proofs.News.{both-on, both-true, New, pushed}
 use Rattle.circuit_file.proofs.Blocks.{Block, behind}
 
 -- what a line's numbers are
@@ -69,7 +69,7 @@ module _ (m : ℕ) where
   -- latches
   latch-into : (defined : List ℕ) (q : Latch) → LineOk m defined Latches (latchLine q) → (isNew m (isDefined defined (q .current)) (q .current) ≡ true) × IsLiteral m (q .next)
   latch-into defined q ok =
-      let w = both (isNew m (isDefined defined (q .current)) (q .current)) (leb (q .next) (2 * m + 1)) (ok .can) in
+      let w = both-on (isNew m (isDefined defined (q .current)) (q .current)) (leb (q .next) (2 * m + 1)) (ok .can) in
       (w .0, leb-true (q .next) (2 * m + 1) (w .1))
 
   latch-from : (defined : List ℕ) (q : Latch) → isNew m (isDefined defined (q .current)) (q .current) ≡ true → IsLiteral m (q .next) → LineOk m defined Latches (latchLine q)
@@ -90,8 +90,8 @@ module _ (m : ℕ) where
   -- gates
   gate-into : (defined : List ℕ) (g : Gate) → LineOk m defined Gates (gateLine g) → (isNew m (isDefined defined (g .lhs)) (g .lhs) ≡ true) × Lower g
   gate-into defined g ok =
-      let w = both (isNew m (isDefined defined (g .lhs)) (g .lhs)) (ltb (g .rhs0) (g .lhs) && ltb (g .rhs1) (g .lhs)) (ok .can) in
-      let v = both (ltb (g .rhs0) (g .lhs)) (ltb (g .rhs1) (g .lhs)) (w .1) in
+      let w = both-on (isNew m (isDefined defined (g .lhs)) (g .lhs)) (ltb (g .rhs0) (g .lhs) && ltb (g .rhs1) (g .lhs)) (ok .can) in
+      let v = both-on (ltb (g .rhs0) (g .lhs)) (ltb (g .rhs1) (g .lhs)) (w .1) in
       (w .0, (ltb-true (g .rhs0) (g .lhs) (v .0), ltb-true (g .rhs1) (g .lhs) (v .1)))
 
   gate-from : (defined : List ℕ) (g : Gate) → isNew m (isDefined defined (g .lhs)) (g .lhs) ≡ true → Lower g → LineOk m defined Gates (gateLine g)

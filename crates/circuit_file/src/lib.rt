@@ -6,7 +6,7 @@ ghost use lib.ListN.{length};
 ghost use Rattle.text.specs.Result.{mapResult};
 ghost use Rattle.text.specs.Result.Result.{refused};
 ghost use Rattle.circuit_file.specs.File.{HeaderWithin, SmallHeader, circuitAnswer, circuitLines, headerAs, headerForm};
-ghost use Rattle.circuit_file.specs.File.{linesIn, listingOf, parseListing};
+ghost use Rattle.circuit_file.specs.File.{linesIn, contentsOf, parseContents};
 ghost use Rattle.circuit_line.specs.Numbers.{plainLine};
 use circuit_line::numbers::LineRead;
 use circuit_line::section::Header;
@@ -93,7 +93,7 @@ fn read_header(file: &[u8]) -> HeaderRead
 // at most, so a variable is below 50,000. Where a line has fewer than three numbers, 0 is put behind them, which stood there before.
 fn read_lines(body: &[u8], header: Header) -> CircuitAnswer
     requires { ⌜ SmallHeader header × (length (now body) ≤ 65536) ⌝ }
-    ensures answer { λ r. ⌜ r ≡ circuitAnswer (mapResult (listingOf header)
+    ensures answer { λ r. ⌜ r ≡ circuitAnswer (mapResult (contentsOf header)
         (circuitLines header (linesIn header) [] [] (now (body .entry)))) ⌝ }
 {
     let maximum = header.maximum;
@@ -105,7 +105,7 @@ fn read_lines(body: &[u8], header: Header) -> CircuitAnswer
     let mut k = 0;
     while k < total {
         let section = circuit_line::section::section_of(header, k);
-        let count = circuit_line::section::numbers_in(section);
+        let count = circuit_line::section::width(section);
         let LineRead::Line(literal, first, second, next) = circuit_line::numbers::read_line(
             rest,
             count,
@@ -121,7 +121,7 @@ fn read_lines(body: &[u8], header: Header) -> CircuitAnswer
         numbers[used + 1] = first as u32;
         numbers[used + 2] = second as u32;
         used += count;
-        taken[variable] = before | circuit_line::section::is_defining(section);
+        taken[variable] = before | circuit_line::section::defines(section);
         rest = &rest[next..];
         k += 1;
     }
@@ -136,7 +136,7 @@ fn read_lines(body: &[u8], header: Header) -> CircuitAnswer
 
 // A circuit file: its table, or the refusal.
 pub fn read_circuit(file: &[u8]) -> CircuitAnswer
-    ensures answer { λ r. ⌜ r ≡ circuitAnswer (parseListing (now (file .entry))) ⌝ }
+    ensures answer { λ r. ⌜ r ≡ circuitAnswer (parseContents (now (file .entry))) ⌝ }
 {
     if 65536 < file.len() {
         return refuse(Reason::TooLong, 0);

@@ -59,11 +59,11 @@ possible-marked m defined s a b c = by (ℕ-discrete (a % 2) 0)
 
 -- ---- the form of a line is that of its numbers, where the line is possible
 
-abbrev pub Possible : ℕ → List ℕ → Section → List ℕ → Bool
-Possible m defined s xs = isPossible m (isDefined defined (getD xs 0 0)) s (getD xs 0 0) (getD xs 1 0) (getD xs 2 0)
+abbrev pub possibleLine : ℕ → List ℕ → Section → List ℕ → Bool
+possibleLine m defined s xs = isPossible m (isDefined defined (getD xs 0 0)) s (getD xs 0 0) (getD xs 1 0) (getD xs 2 0)
 
 abbrev pub onlyPossible : ℕ → List ℕ → Section → Parsed (Next (List ℕ)) → Parsed (Next (List ℕ))
-onlyPossible m defined s p = onParsed p bad (λ x. pick (Possible m defined s (x .value)) (good x) (bad WrongForm))
+onlyPossible m defined s p = onParsed p bad (λ x. pick (possibleLine m defined s (x .value)) (good x) (bad WrongForm))
 
 -- what a line stands for, with where the next line begins
 abbrev lineAt : ℕ → List ℕ → Next (List ℕ)
@@ -74,14 +74,14 @@ lineEnds end p = onParsed p bad (λ xs. good (lineAt end xs))
 
 module _ (m : ℕ) (defined : List ℕ) (s : Section) where
   abbrev tested : Parsed (List ℕ) → Parsed (List ℕ)
-  tested p = onParsed p bad (λ xs. pick (Possible m defined s xs) (good xs) (bad WrongForm))
+  tested p = onParsed p bad (λ xs. pick (possibleLine m defined s xs) (good xs) (bad WrongForm))
 
   test-end : (end : ℕ) (xs : List ℕ) (t : Bool) → lineEnds end (pick t (good xs) (bad WrongForm)) ≡ pick t (good (lineAt end xs)) (bad WrongForm)
   test-end end xs true = refl
   test-end end xs false = refl
 
   form-end : (end : ℕ) (p : Parsed (List ℕ)) → lineEnds end (tested p) ≡ onlyPossible m defined s (lineEnds end p)
-  form-end end (good xs) = test-end end xs (Possible m defined s xs)
+  form-end end (good xs) = test-end end xs (possibleLine m defined s xs)
   form-end end (bad e) = refl
 
   pub line-form : (rest : List ℕ) → plainLine (lineForm m defined s) rest ≡ onlyPossible m defined s (plainLine (numberList (width s)) rest)

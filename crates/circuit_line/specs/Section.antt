@@ -43,12 +43,12 @@ isDefined (d ∷ ds) l = pick (eqb d l) true (isDefined ds l)
 abbrev pub isVariable : ℕ → ℕ → Bool
 isVariable m l = (eqb (l % 2) 0 && leb 2 l) && leb l (2 * m)
 
--- what a line may define, "each variable 1 to M defined exactly once"
+-- what a line may define: a variable that none before it has defined
 abbrev pub isNew : ℕ → Bool → ℕ → Bool
 isNew m taken l = isVariable m l && not taken
 
--- the numbers of a line, where `taken` says whether the first is defined already: "literals up to 2M + 1, left sides even", "gates whose
--- operands have lower literals"
+-- the numbers of a line, where `taken` says whether the first is defined already; other literals reach up to 2M + 1, and the operands of
+-- "gates whose operands have lower literals" lie below the left side
 abbrev pub isPossible : ℕ → Bool → Section → ℕ → ℕ → ℕ → Bool
 isPossible m taken Inputs a b c = isNew m taken a
 isPossible m taken Latches a b c = isNew m taken a && leb b (2 * m + 1)

@@ -37,7 +37,7 @@ pub fn section_of(header: Header, k: usize) -> Section
 }
 
 // How many numbers the lines of a section have.
-pub fn numbers_in(section: Section) -> usize
+pub fn width(section: Section) -> usize
     ensures answer { λ r. ⌜ r ≡ width section ⌝ }
     ensures within { λ r. ⌜ (1 ≤ r) × (r ≤ 3) ⌝ }
 {
@@ -50,7 +50,7 @@ pub fn numbers_in(section: Section) -> usize
 }
 
 // Whether its lines define their first literal.
-pub fn is_defining(section: Section) -> bool
+pub fn defines(section: Section) -> bool
     ensures answer { λ r. ⌜ r ≡ defines section ⌝ }
 {
     match section {

@@ -55,7 +55,7 @@ unfolding tabulateFrom gatesFrom
 circuit-is = refl
 
 -- the bytes of lines, each with its line feed (byte 10)
-abbrev fileBytes : List String → List ℕ
+abbrev pub fileBytes : List String → List ℕ
 fileBytes [] = []
 fileBytes (l ∷ ls) = bytes l ++ (10 ∷ fileBytes ls)
 

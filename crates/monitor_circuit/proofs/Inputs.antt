@@ -24,7 +24,7 @@ use Rattle.normal_form.specs.Numbering.{normalForm}
 use Rattle.circuit.specs.Valuation.{Valuation, outputValues, nextLatches, IsRun}
 use Rattle.step.specs.Step.{digitOf, rowOutput, formOutcome, formOutput, rowsIn}
 use Rattle.step.proofs.Checks.{all-right}
-use Rattle.step_calls.specs.Calls.{Call, Kept.fresh, given, InOrder, kept, handed, answered, left}
+use Rattle.step_calls.specs.Calls.{Call, given, InOrder, kept, handed, answered, left}
 use Rattle.step_calls.proofs.Steps.{digit-says, left-is, kept-is}
 use Rattle.monitor_circuit.specs.Steps.{ruleCircuit, inputsIn, callWith}
 use Rattle.monitor_circuit.proofs.Values.{in-first, behind-first, stripes-size}
@@ -33,21 +33,21 @@ use Rattle.monitor_circuit.proofs.Calls.{output-size, outputs-are, next
 -- ---- a call of so many digits is accepted
 
 -- so many digits
-pub record Digits (n : ℕ) (ds : List ℕ) : Type 0 where
+pub record SoManyDigits (n : ℕ) (ds : List ℕ) : Type 0 where
   pub each-digit : areDigits ds ≡ true
   pub size : length ds ≡ n
 
-digits-of : (n : ℕ) (b : ℕ → Bool) → Digits n (tabulate n (λ i. digitOf (b i)))
+digits-of : (n : ℕ) (b : ℕ → Bool) → SoManyDigits n (tabulate n (λ i. digitOf (b i)))
 digits-of n b =
     record {
       each-digit = ap areDigits (sym (map-tabulate digitOf n b)) ∙ are-written (tabulate n b);
       size = length-tabulate n 0 (λ i. digitOf (b i));
     }
 
-zeros-digits : (n : ℕ) → Digits n (replicate n 48)
+zeros-digits : (n : ℕ) → SoManyDigits n (replicate n 48)
 zeros-digits n = rw (replicate-tabulate {A = ℕ} n 0 48) (digits-of n (λ i. false))
 
-accepts : (g : NormalForm) (p a s : List ℕ) (room : ℕ) → Digits (g .rows) p → Digits (g .rows) a → Digits (g .signals) s → 3 * g .rows ≤ room → formOutcome g p a s room ≡ Accepted
+accepts : (g : NormalForm) (p a s : List ℕ) (room : ℕ) → SoManyDigits (g .rows) p → SoManyDigits (g .rows) a → SoManyDigits (g .signals) s → 3 * g .rows ≤ room → formOutcome g p a s room ≡ Accepted
 accepts g p a s room dp da ds h =
     sym (all-right g p a s room (sym (dp .each-digit)) (sym (da .each-digit)) (sym (ds .each-digit)) refl (rw (eq-eqb (length s) (g .signals) (ds .size)))
     (rw (eq-eqb (length p) (g .rows) (dp .size), eq-eqb (length a) (g .rows) (da .size))) h)
@@ -61,7 +61,7 @@ module _ (f : Formula) (own : ruleOutcome f ≡ Accepted) (inputs : ℕ → ℕ 
   callsWith i = callWith f (inputs i)
 
   -- ---- they are all answered
-  kept-digits : (i : ℕ) → ((j : ℕ) → j < i → answered f callsWith j ≡ true) → Digits (rowsIn f) (handed f callsWith i)
+  kept-digits : (i : ℕ) → ((j : ℕ) → j < i → answered f callsWith j ≡ true) → SoManyDigits (rowsIn f) (handed f callsWith i)
   unfolding kept
   kept-digits zero each = zeros-digits (rowsIn f)
   kept-digits (suc i) each = rw (kept-is f callsWith i (each i (omega arith))) (digits-of (rowsIn f) (λ k. rowOutput g (handed f callsWith i) (callsWith i .activators) (callsWith i .signals) (suc k) .pending))

@@ -13,16 +13,11 @@ use Rattle.tables.specs.declared.row.BinaryKind.the-variants.{And, Or, Weak, Un
 use Rattle.tables.specs.declared.row.Row.{Row}
 use Rattle.tables.specs.declared.row.Row.the-variants.{Constant, Signal, Unary, Binary}
 use Rattle.meaning.specs.Rows.{Each, EachSignal}
+use Rattle.circuit.proofs.Inverters.{either}
 use Rattle.monitors.specs.declared.Output.{Output}
 use Rattle.monitors.specs.declared.State.{State}
 use Rattle.monitors.specs.Monitor.{constantMonitor, signalMonitor, unaryMonitor, binaryMonitor, monitor}
 use Rattle.monitor_circuit.specs.Wiring.{Operands, Wiring, negated, constantWiring, signalWiring, unaryWiring, binaryWiring, rowWiring}
-
--- "g is z or Y": the gate `idle` negated
-either : (a b : Bool) → not (not a && not b) ≡ a || b
-either true b = refl
-either false true = refl
-either false false = refl
 
 neither : (a b : Bool) → not a && not b ≡ not (a || b)
 neither true b = refl
@@ -37,7 +32,7 @@ module _ (v : ℕ → Bool) where
 
   -- a gate is the and of its operands
   abbrev pub Ands : ℕ → Operands → Type 0
-  Ands x p = v x ≡ v (p .left) && v (p .right)
+  Ands x p = v x ≡ v (p .rhs0) && v (p .rhs1)
 
   -- and the gates of a wiring
   pub record Gates (x1 x2 x3 : ℕ) (w : Wiring) : Type 0 where

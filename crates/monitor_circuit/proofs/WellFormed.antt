@@ -37,8 +37,8 @@ tabulated-each : {A : Type 0} (P : ℕ → A → Type 0) (n : ℕ) (f : ℕ → 
 tabulated-each P n f d each i h = let l : i < n = rw length-tabulate at h in subst (P i) (sym (getD-tabulate n f i d l)) (each i l)
 
 -- two tables in a row are one
-joined : (m n : ℕ) (f h k : ℕ → ℕ) → ((i : ℕ) → i < m → f i ≡ k i) → ((i : ℕ) → i < n → h i ≡ k (m + i)) → tabulate m f ++ tabulate n h ≡ tabulate (m + n) k
-joined m n f h k first second =
+tables-join : (m n : ℕ) (f h k : ℕ → ℕ) → ((i : ℕ) → i < m → f i ≡ k i) → ((i : ℕ) → i < n → h i ≡ k (m + i)) → tabulate m f ++ tabulate n h ≡ tabulate (m + n) k
+tables-join m n f h k first second =
     ext-getD 0 (tabulate m f ++ tabulate n h) (tabulate (m + n) k) (size ∙ sym (length-tabulate (m + n) 0 k))
     (λ i l. same i l ∙ sym (getD-tabulate (m + n) k i 0 (omega (arith, size))))
   where
@@ -101,14 +101,14 @@ module _ (g : NormalForm) where
   currents-are = map-tabulate (λ (q : Latch). q .current) (g .rows) (λ i. latchOf g (suc i))
 
   inputs-are : circuitOf g .inputs ≡ tabulate (g .signals + g .rows) (λ i. 2 * suc i)
-  inputs-are = joined (g .signals) (g .rows) _ _ (λ i. 2 * suc i) (λ i h. omega arith) (λ i h. omega arith)
+  inputs-are = tables-join (g .signals) (g .rows) _ _ (λ i. 2 * suc i) (λ i h. omega arith) (λ i h. omega arith)
 
   all-are : definedIn (circuitOf g) ≡ tabulate (g .signals + g .rows + (g .rows + 3 * g .rows)) (λ i. 2 * suc i)
   all-are =
       rw (inputs-are, currents-are, lefts-are)
       (ap (λ l. tabulate (g .signals + g .rows) (λ i. 2 * suc i) ++ l)
-      (joined (g .rows) (3 * g .rows) _ _ (ownFrom (g .signals + g .rows)) (λ i h. omega arith) (λ i h. omega arith))
-      ∙ joined (g .signals + g .rows) (g .rows + 3 * g .rows) _ _ (λ i. 2 * suc i) (λ i h. omega arith) (λ i h. omega arith))
+      (tables-join (g .rows) (3 * g .rows) _ _ (ownFrom (g .signals + g .rows)) (λ i h. omega arith) (λ i h. omega arith))
+      ∙ tables-join (g .signals + g .rows) (g .rows + 3 * g .rows) _ _ (λ i. 2 * suc i) (λ i h. omega arith) (λ i h. omega arith))
 
   -- THE DEFINED LITERALS ARE 2, 4, 6 AND SO ON, in the order of the file
   pub defined-are : definedIn (circuitOf g) ≡ tabulate (maximum (circuitOf g)) (λ i. 2 * suc i)

@@ -12,11 +12,11 @@ use Rattle.tables.specs.declared.row.BinaryKind.the-variants.{And, Or, Weak, Un
 use Rattle.tables.specs.declared.row.Row.{Row}
 use Rattle.tables.specs.declared.row.Row.the-variants.{Constant, Signal, Unary, Binary}
 use Rattle.meaning.specs.Rows.{Each, EachSignal}
-use Rattle.monitor_circuit.specs.Wiring.{Operands, Wiring, negated, both, unused, checks, waits, awaits, constantWiring, signalWiring, unaryWiring, binaryWiring, rowWiring}
+use Rattle.monitor_circuit.specs.Wiring.{Operands, Wiring, negated, both, spare, checks, waits, awaits, constantWiring, signalWiring, unaryWiring, binaryWiring, rowWiring}
 
 -- the operands have lower literals
 abbrev pub Lower : ℕ → Operands → Type 0
-Lower x p = (p .left < x) × (p .right < x)
+Lower x p = (p .rhs0 < x) × (p .rhs1 < x)
 
 -- all that a wiring names lies where it can be named: below its own gate, and no higher than the last gate negated
 pub record Low (x1 x2 x3 : ℕ) (w : Wiring) : Type 0 where
@@ -32,14 +32,14 @@ abbrev pub Under : ℕ → ℕ → Type 0
 Under x l = negated l < x
 
 module _ (z Y x1 x2 x3 : ℕ) (z-low : Under x1 z) (Y-low : Under x1 Y) (x1-low : Under x2 x1) (x2-low : Under x3 x2) where
-  unused-first : Lower x1 unused
-  unused-first = (omega arith, omega arith)
+  spare-first : Lower x1 spare
+  spare-first = (omega arith, omega arith)
 
-  unused-second : Lower x2 unused
-  unused-second = (omega arith, omega arith)
+  spare-second : Lower x2 spare
+  spare-second = (omega arith, omega arith)
 
-  unused-third : Lower x3 unused
-  unused-third = (omega arith, omega arith)
+  spare-third : Lower x3 spare
+  spare-third = (omega arith, omega arith)
 
   -- by what is named
   module _ (p q : Operands) (p-low : Lower x1 p) (q-low : Lower x2 q) where
@@ -48,7 +48,7 @@ module _ (z Y x1 x2 x3 : ℕ) (z-low : Under x1 z) (Y-low : Under x1 Y) (x1-low 
         record {
           low-first = p-low;
           low-second = q-low;
-          low-third = unused-third;
+          low-third = spare-third;
           low-failed = omega arith;
           low-accept = omega arith;
           low-pending = omega arith;
@@ -78,13 +78,13 @@ module _ (z Y x1 x2 x3 : ℕ) (z-low : Under x1 z) (Y-low : Under x1 Y) (x1-low 
           }
 
   constant-low : (c : ConstantKind) → Low x1 x2 x3 (constantWiring z Y x1 x2 x3 c)
-  constant-low True = checks-low _ _ unused-first unused-second _ (omega arith)
-  constant-low False = checks-low _ _ unused-first unused-second _ (omega arith)
+  constant-low True = checks-low _ _ spare-first spare-second _ (omega arith)
+  constant-low False = checks-low _ _ spare-first spare-second _ (omega arith)
 
   module _ (A : ℕ) (A-low : Under x1 A) where
     signal-low : (c : SignalKind) → Low x1 x2 x3 (signalWiring z Y x1 x2 x3 c A)
-    signal-low Sig = checks-low _ _ (omega arith, A-low) unused-second _ (omega arith)
-    signal-low Nsig = checks-low _ _ (omega arith, omega arith) unused-second _ (omega arith)
+    signal-low Sig = checks-low _ _ (omega arith, A-low) spare-second _ (omega arith)
+    signal-low Nsig = checks-low _ _ (omega arith, omega arith) spare-second _ (omega arith)
 
     -- the row goes and A does not hold
     without-second : Lower x2 (both (negated x1) (negated A))
@@ -94,10 +94,10 @@ module _ (z Y x1 x2 x3 : ℕ) (z-low : Under x1 z) (Y-low : Under x1 Y) (x1-low 
     without-third = (omega arith, omega arith)
 
     unary-low : (c : UnaryKind) → Low x1 x2 x3 (unaryWiring z Y x1 x2 x3 c A)
-    unary-low Not = checks-low _ _ unused-first unused-second _ (omega arith)
-    unary-low Next = waits-low _ _ (omega arith, A-low) unused-second _ unused-third _ _ (omega arith) (omega arith)
-    unary-low Always = waits-low _ _ (z-low, Y-low) without-second _ unused-third _ _ (omega arith) (omega arith)
-    unary-low Ever = awaits-low _ _ (z-low, Y-low) without-second _ unused-third _ _ (omega arith) (omega arith)
+    unary-low Not = checks-low _ _ spare-first spare-second _ (omega arith)
+    unary-low Next = waits-low _ _ (omega arith, A-low) spare-second _ spare-third _ _ (omega arith) (omega arith)
+    unary-low Always = waits-low _ _ (z-low, Y-low) without-second _ spare-third _ _ (omega arith) (omega arith)
+    unary-low Ever = awaits-low _ _ (z-low, Y-low) without-second _ spare-third _ _ (omega arith) (omega arith)
 
   module _ (A B : ℕ) (A-low : Under x1 A) (B-low : Under x1 B) where
     -- it is pending and A does not hold

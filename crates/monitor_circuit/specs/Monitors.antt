@@ -41,7 +41,7 @@ module _ (g : NormalForm) where
 
   abbrev pub gateOf : ℕ → (Wiring → Operands) → ℕ → Gate
   gateOf j operands k =
-      record { lhs = gateLiteral j k; rhs0 = operands (wiringOf k) .left; rhs1 = operands (wiringOf k) .right }
+      record { lhs = gateLiteral j k; rhs0 = operands (wiringOf k) .rhs0; rhs1 = operands (wiringOf k) .rhs1 }
 
   -- the gates of so many rows, of which k is the first
   unfoldable pub gatesFrom : ℕ → ℕ → List Gate

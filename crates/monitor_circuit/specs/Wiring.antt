@@ -13,8 +13,8 @@ use Rattle.tables.specs.declared.row.Row.the-variants.{Constant, Signal, Unary,
 
 -- the operands of a gate
 pub record Operands : Type 0 where
-  pub left : ℕ
-  pub right : ℕ
+  pub rhs0 : ℕ
+  pub rhs1 : ℕ
 
 -- a row has three gates, and three literals for what its monitor says
 pub record Wiring : Type 0 where
@@ -30,15 +30,15 @@ abbrev pub negated : ℕ → ℕ
 negated l = l + 1
 
 abbrev pub both : ℕ → ℕ → Operands
-both l r = record { left = l; right = r }
+both l r = record { rhs0 = l; rhs1 = r }
 
 -- a gate that the row does not need: false and false
-abbrev pub unused : Operands
-unused = both 0 0
+abbrev pub spare : Operands
+spare = both 0 0
 
 -- "What is not named is: pending 0, failed 0, accept 1": as in the monitors' table, by what is named
 abbrev pub checks : Operands → Operands → ℕ → Wiring
-checks first second failed = record { first = first; second = second; third = unused; failed = failed; accept = 1; pending = 0 }
+checks first second failed = record { first = first; second = second; third = spare; failed = failed; accept = 1; pending = 0 }
 
 abbrev pub waits : Operands → Operands → Operands → ℕ → ℕ → Wiring
 waits first second third pending failed =
@@ -58,22 +58,22 @@ module _ (z Y x1 x2 x3 : ℕ) where
 
   -- "true: nothing. false: failed z."
   abbrev pub constantWiring : ConstantKind → Wiring
-  constantWiring True = checks unused unused 0
-  constantWiring False = checks unused unused z
+  constantWiring True = checks spare spare 0
+  constantWiring False = checks spare spare z
 
   -- "sig: failed z and not signal. nsig: failed z and signal."
   abbrev pub signalWiring : SignalKind → ℕ → Wiring
-  signalWiring Sig A = checks (both z (negated A)) unused x1
-  signalWiring Nsig A = checks (both z A) unused x1
+  signalWiring Sig A = checks (both z (negated A)) spare x1
+  signalWiring Nsig A = checks (both z A) spare x1
 
   abbrev pub unaryWiring : UnaryKind → ℕ → Wiring
-  unaryWiring Not A = checks unused unused 0
+  unaryWiring Not A = checks spare spare 0
   -- "next: pending z, failed Y and not A."
-  unaryWiring Next A = waits (both Y (negated A)) unused unused z x1
+  unaryWiring Next A = waits (both Y (negated A)) spare spare z x1
   -- "always: pending g, failed g and not A."
-  unaryWiring Always A = waits idle (both (negated x1) (negated A)) unused (negated x1) x2
+  unaryWiring Always A = waits idle (both (negated x1) (negated A)) spare (negated x1) x2
   -- "ever: pending g and not A, accept not pending."
-  unaryWiring Ever A = awaits idle (both (negated x1) (negated A)) unused x2 0
+  unaryWiring Ever A = awaits idle (both (negated x1) (negated A)) spare x2 0
 
   abbrev pub binaryWiring : BinaryKind → ℕ → ℕ → Wiring
   -- "and: failed z and not (A and B). or: failed z and not (A or B)."

@@ -117,7 +117,7 @@ module _ (f : Formula) (calls : ℕ → Call) (i : ℕ) where
   abbrev outcome : Outcome
   outcome = stepOutcome f p a s (calls i .buffer)
 
-  pub accepts : answered f calls i ≡ true → outcome ≡ Accepted
+  accepts : answered f calls i ≡ true → outcome ≡ Accepted
   accepts e = by outcome e
     where
       by : (o : Outcome) → onAnswer (onOutcome o BytesRefused (Count (3 * g .rows))) true false ≡ true → o ≡ Accepted

@@ -3,16 +3,16 @@ use native.Mathlib.Omega.{arith}
 use lib.ListN.{length-drop}
 use Rattle.tables.proofs.Choices.{rest-part}
 use Rattle.circuit_file.specs.File.{circuitAnswer}
-use Rattle.circuit_file.proofs.Headers.{header-known, listing-long, listing-headless, listing-lines}
+use Rattle.circuit_file.proofs.Headers.{header-known, contents-long, contents-headless, contents-lines}
 use borrow.Author.Needs.{needs}
 use Rattle.circuit_file.proofs.read_circuit.Statement.{statement}
 use Rattle.circuit_file.proofs.read_circuit.Tie as tie
 
 returns : tie.Need-returns
-returns c = c .refuse .ensures ∙ ap circuitAnswer (sym (listing-long _ (c .before .if1 .taken)))
+returns c = c .refuse .ensures ∙ ap circuitAnswer (sym (contents-long _ (c .before .if1 .taken)))
 
 returns-2 : tie.Need-returns-2
-returns-2 c = c .refuse2 .ensures ∙ ap circuitAnswer (sym (listing-headless _ (c .before .before .before .before .if1 .left) (c .before .before .before .read-header .ensures .0) (c .before .enum-told .given .1)))
+returns-2 c = c .refuse2 .ensures ∙ ap circuitAnswer (sym (contents-headless _ (c .before .before .before .before .if1 .left) (c .before .before .before .read-header .ensures .0) (c .before .enum-told .given .1)))
 
 sub-read-lines : tie.Need-sub-read-lines
 sub-read-lines c = header-known _ (c .before .before .before .read-header .ensures .1) (c .before .header .given .1) .1
@@ -24,7 +24,7 @@ read-lines-requires : tie.Need-read-lines-requires
 read-lines-requires c κs = (header-known _ (c .before .before .before .before .read-header .ensures .1) (c .before .before .header .given .1) .0, rw (rest-part, length-drop) (omega (arith, c .before .before .before .before .before .if1 .left)))
 
 returns-3 : tie.Need-returns-3
-returns-3 c = rw rest-part at (c .read-lines .ensures) ∙ ap circuitAnswer (sym (listing-lines _ (c .before .before .before .before .before .before .if1 .left) (c .before .before .before .before .before .read-header .ensures .0) (c .before .before .before .header .given .1)))
+returns-3 c = rw rest-part at (c .read-lines .ensures) ∙ ap circuitAnswer (sym (contents-lines _ (c .before .before .before .before .before .before .if1 .left) (c .before .before .before .before .before .read-header .ensures .0) (c .before .before .before .header .given .1)))
 
 pub read-circuit-spec : {M : Type 1} → statement M
 read-circuit-spec =

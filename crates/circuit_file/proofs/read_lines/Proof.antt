@@ -21,13 +21,13 @@ loop-holds : tie.Need-loop-holds Inv-loop μ-loop
 loop-holds c = (lines-start, search needs, search needs, search needs)
 
 returns : tie.Need-returns Inv-loop μ-loop
-returns c = c .refuse .ensures ∙ lines-wrong (c .before .before .before .before .before .before .before .loop .inv .0) (search needs) (c .before .before .before .before .before .section-of .ensures) (c .before .before .before .before .numbers-in .ensures .0) (c .before .before .before .read-line .ensures .0) (c .before .enum-told .given .1)
+returns c = c .refuse .ensures ∙ lines-wrong (c .before .before .before .before .before .before .before .loop .inv .0) (search needs) (c .before .before .before .before .before .section-of .ensures) (c .before .before .before .before .width .ensures .0) (c .before .before .before .read-line .ensures .0) (c .before .enum-told .given .1)
 
 array-read-before : tie.Need-array-read-before Inv-loop μ-loop
 array-read-before c = omega (arith, line-known (c .before .before .before .read-line .ensures .1) (c .before .literal .given .1) .small .0)
 
 returns-2 : tie.Need-returns-2 Inv-loop μ-loop
-returns-2 c = c .refuse2 .ensures ∙ lines-not (c .before .before .before .before .before .before .before .before .before .before .loop .inv .0) (search needs) (c .before .before .before .before .before .before .before .before .section-of .ensures) (c .before .before .before .before .before .before .before .numbers-in .ensures .0) (c .before .before .before .before .before .before .read-line .ensures .0) (c .before .before .before .before .literal .given .1) (c .before .before .before .before .before .before .read-line .ensures .1) (c .before .before .is-possible .ensures) (not-true _ (c .before .if1 .taken))
+returns-2 c = c .refuse2 .ensures ∙ lines-not (c .before .before .before .before .before .before .before .before .before .before .loop .inv .0) (search needs) (c .before .before .before .before .before .before .before .before .section-of .ensures) (c .before .before .before .before .before .before .before .width .ensures .0) (c .before .before .before .before .before .before .read-line .ensures .0) (c .before .before .before .before .literal .given .1) (c .before .before .before .before .before .before .read-line .ensures .1) (c .before .before .is-possible .ensures) (not-true _ (c .before .if1 .taken))
 
 cast-numbers : tie.Need-cast-numbers Inv-loop μ-loop
 cast-numbers c = omega (arith, line-known (c .before .before .before .before .before .read-line .ensures .1) (c .before .before .before .literal .given .1) .small .0)
@@ -39,7 +39,7 @@ cast-numbers-3 : tie.Need-cast-numbers-3 Inv-loop μ-loop
 cast-numbers-3 c = omega (arith, line-known (c .before .before .before .before .before .read-line .ensures .1) (c .before .before .before .literal .given .1) .small .2)
 
 array-write-numbers-3 : tie.Need-array-write-numbers-3 Inv-loop μ-loop
-array-write-numbers-3 c = omega (arith, lines-room (c .before .before .before .before .before .before .before .before .before .loop .inv .0) (line-known (c .before .before .before .before .before .read-line .ensures .1) (c .before .before .before .literal .given .1)) (c .before .before .before .before .before .before .numbers-in .ensures .1 .0) (c .before .before .before .before .before .before .before .before .before .before .before .before .before .before .pre .1))
+array-write-numbers-3 c = omega (arith, lines-room (c .before .before .before .before .before .before .before .before .before .loop .inv .0) (line-known (c .before .before .before .before .before .read-line .ensures .1) (c .before .before .before .literal .given .1)) (c .before .before .before .before .before .before .width .ensures .1 .0) (c .before .before .before .before .before .before .before .before .before .before .before .before .before .before .pre .1))
 
 array-write-taken : tie.Need-array-write-taken Inv-loop μ-loop
 array-write-taken c = omega (arith, line-known (c .before .before .before .before .before .before .read-line .ensures .1) (c .before .before .before .before .literal .given .1) .small .0)
@@ -51,7 +51,7 @@ part-rest-start : tie.Need-part-rest-start Inv-loop μ-loop
 part-rest-start c = omega (arith, line-known (c .before .before .before .before .before .before .read-line .ensures .1) (c .before .before .before .before .literal .given .1) .inside)
 
 loop-again : tie.Need-loop-again Inv-loop μ-loop
-loop-again c = let p = lines-more (c .before .before .before .before .before .before .before .before .before .before .before .loop .inv .0) (search needs) (c .before .before .before .before .before .before .before .before .before .section-of .ensures) (c .before .before .before .before .before .before .before .before .numbers-in .ensures .0) (c .before .before .before .before .before .before .before .read-line .ensures .0) (c .before .before .before .before .before .literal .given .1) (c .before .before .before .before .before .before .before .read-line .ensures .1) (c .before .before .before .is-possible .ensures) (not-false _ (c .before .before .if1 .left)) (c .before .is-defining .ensures) (c .before .before .before .before .before .before .before .before .numbers-in .ensures .1 .0) (c .before .before .before .before .before .before .before .before .numbers-in .ensures .1 .1) (c .before .before .before .before .before .before .before .before .before .before .before .before .before .before .before .before .pre .1) in
+loop-again c = let p = lines-more (c .before .before .before .before .before .before .before .before .before .before .before .loop .inv .0) (search needs) (c .before .before .before .before .before .before .before .before .before .section-of .ensures) (c .before .before .before .before .before .before .before .before .width .ensures .0) (c .before .before .before .before .before .before .before .read-line .ensures .0) (c .before .before .before .before .before .literal .given .1) (c .before .before .before .before .before .before .before .read-line .ensures .1) (c .before .before .before .is-possible .ensures) (not-false _ (c .before .before .if1 .left)) (c .before .defines .ensures) (c .before .before .before .before .before .before .before .before .width .ensures .1 .0) (c .before .before .before .before .before .before .before .before .width .ensures .1 .1) (c .before .before .before .before .before .before .before .before .before .before .before .before .before .before .before .before .pre .1) in
     (rw rest-part p, numbers-length p, taken-length p, numbers-used p (c .before .before .before .before .before .before .before .before .before .before .before .before .before .before .before .before .pre .1))
 
 returns-3 : tie.Need-returns-3 Inv-loop μ-loop
