@@ -57,10 +57,10 @@ map-back : {A B : Type 0} (f : A → B) (g : B → A) → ((x : A) → g (f x) �
 map-back f g own [] = refl
 map-back f g own (x ∷ xs) = ap₂ _∷_ (own x) (map-back f g own xs)
 
-assembled : List ℕ → List Latch → List ℕ → List Gate → Circuit
+unfoldable pub assembled : List ℕ → List Latch → List ℕ → List Gate → Circuit
 assembled a b o g = record { inputs = a; latches = b; outputs = o; gates = g }
 
-same-parts : {a a′ : List ℕ} {b b′ : List Latch} {o o′ : List ℕ} {g g′ : List Gate} → a ≡ a′ → b ≡ b′ → o ≡ o′ → g ≡ g′ → assembled a b o g ≡ assembled a′ b′ o′ g′
+pub same-parts : {a a′ : List ℕ} {b b′ : List Latch} {o o′ : List ℕ} {g g′ : List Gate} → a ≡ a′ → b ≡ b′ → o ≡ o′ → g ≡ g′ → assembled a b o g ≡ assembled a′ b′ o′ g′
 same-parts p q r s = rw (p, q, r, s)
 
 -- the circuit of a circuit's contents is the circuit

@@ -10,4 +10,5 @@ pub mod Formed
 pub mod FirstLine
 pub mod Contents
 pub mod Circuits
+pub mod Tables
 pub mod Refusals

@@ -1,5 +1,5 @@
 -- The loop that reads the lines behind the header. Assumes nothing.
-use mathlib.Core.Path.{_≡_, refl, sym, ap, subst, _∙_}
+use mathlib.Core.Path.{_≡_, ap₂, refl, sym, ap, subst, _∙_}
 use mathlib.Core.Bool.{Bool, true, false, _||_}
 use mathlib.Core.List.{List, [], _∷_, _++_}
 use Prim.Native.Nat.{ℕ, suc, _+_, _*_, _-_, _/_, _%_, _≤_, _<_}
@@ -13,6 +13,7 @@ use Rattle.tables.specs.Choice.{pick}
 use Rattle.tables.specs.Place.{tabulate, placed}
 use Rattle.tables.specs.declared.refusal.Reason.{Reason}
 use Rattle.tables.specs.declared.refusal.Reason.the-variants.{WrongForm}
+use Rattle.tables.specs.declared.refusal.Outcome.{Outcome}
 use Rattle.tables.specs.declared.refusal.Outcome.the-variants.{Accepted, Refused}
 use Rattle.tables.proofs.Places.{length-tabulate, getD-tabulate, replicate-tabulate, set-tabulate}
 use Rattle.text.specs.Result.{Parsed, Next, mapResult}
@@ -35,16 +36,19 @@ marks-none : (n : ℕ) → replicate n false ≡ tabulate n (λ x. isDefined [] 
 unfolding isDefined
 marks-none n = replicate-tabulate n 0 false
 
+refusal-said : (e : Reason) (l : ℕ) → Refused (record { reason = e; file = 1; line = l }) ≡ circuitAnswer (refused e l) .outcome
+refusal-said e l = refl
+
 pub refusal : (e : Reason) (l : ℕ)
     → record {
       outcome = Refused (record { reason = e; file = 1; line = l });
       table = record { header = record { maximum = 0; inputs = 0; latches = 0; outputs = 0; gates = 0 }; numbers = replicate 32770 0 };
     } ≡ circuitAnswer (refused e l)
 refusal e l =
-    ap (λ (xs : List ℕ). record {
-      outcome = Refused (record { reason = e; file = 1; line = l });
+    ap₂ (λ (o : Outcome) (xs : List ℕ). record {
+      outcome = o;
       table = record { header = record { maximum = 0; inputs = 0; latches = 0; outputs = 0; gates = 0 }; numbers = xs };
-    }) (flat-none 32770)
+    }) (refusal-said e l) (flat-none 32770)
 
 -- ---- which variables are defined
 
