@@ -87,7 +87,7 @@ module _ (h : Header) (c : Circuit) (i : length (c .inputs) ≡ h .inputs) (l : 
   abbrev ofAll : List ℕ
   ofAll = ofInputs ++ (ofLatches ++ (ofOutputs ++ ofGates))
 
-  all-same : flat (linesOf c) ≡ ofAll
+  pub all-same : flat (linesOf c) ≡ ofAll
   all-same =
       let a : List (List ℕ) = map oneLine (c .inputs) in
       let b : List (List ℕ) = map latchLine (c .latches) in
@@ -108,7 +108,7 @@ module _ (h : Header) (c : Circuit) (i : length (c .inputs) ≡ h .inputs) (l : 
   long-gates : length ofGates ≡ 3 * h .gates
   long-gates = omega (arith, block-length gateLine 3 (λ x. refl) (c .gates), g)
 
-  all-long : length ofAll ≡ h .inputs + 2 * h .latches + h .outputs + 3 * h .gates
+  pub all-long : length ofAll ≡ h .inputs + 2 * h .latches + h .outputs + 3 * h .gates
   all-long = simp length-append (omega (arith, long-inputs, long-latches, long-outputs, long-gates))
 
   -- behind the inputs, behind the latches and behind the outputs
