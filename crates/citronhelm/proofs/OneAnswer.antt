@@ -7,7 +7,7 @@ use Rattle.tables.specs.declared.row.Formula.{Formula}
 use Rattle.tables.specs.declared.trace.Activation.{Activation}
 use Rattle.tables.specs.declared.trace.Trace.{Trace}
 use Rattle.answer_code.specs.Code.{bytesCode, checkCode, judgeCode, makerCode}
-use Rattle.citronhelm.specs.Service.{CheckedAs, JudgedAs, MadeAs, MeasuredAs, PrintedAs}
+use Rattle.citronhelm.specs.Service.{CheckedAs, JudgedAs, MadeAs, MeasuredAs, PrintedAs, SimulatedAs}
 
 pub judged-once : {o : Outcome} {f : Formula} {t : Trace} {r s : ℕ} → JudgedAs o f t r → JudgedAs o f t s → r ≡ s
 judged-once x y = x .coded ∙ ap judgeCode (y .answers .only (x .answer) (x .answers .so)) ∙ sym (y .coded)
@@ -26,4 +26,10 @@ checked-once x y = x .coded ∙ ap checkCode (y .answers .only (x .answer) (x .a
 pub printed-once : {rule take before after other : List ℕ} {r s : ℕ} → PrintedAs rule take before after r → PrintedAs rule take before other s → (r ≡ s) × (after ≡ other)
 printed-once {after = after} x y =
     let e = y .prints .only after (x .answer) (x .prints .so) in
+    (x .coded ∙ ap bytesCode (e .1) ∙ sym (y .coded), e .0)
+
+pub simulated-once : {circuit inputs latches before after other : List ℕ} {r s : ℕ} → SimulatedAs circuit inputs latches before after r
+    → SimulatedAs circuit inputs latches before other s → (r ≡ s) × (after ≡ other)
+simulated-once {after = after} x y =
+    let e = y .simulates .only after (x .answer) (x .simulates .so) in
     (x .coded ∙ ap bytesCode (e .1) ∙ sym (y .coded), e .0)

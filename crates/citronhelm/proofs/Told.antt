@@ -35,6 +35,10 @@ use Rattle.sheet_maker.specs.Made.{IsMade}
 use Rattle.sheet_maker.specs.Answer.{Answers, Answers.none, Answers.sheet, MakesOn, answerOf}
 use Rattle.sheet_length.specs.Answer.{Measured.sheet, Measured.none, MeasuresOn}
 use Rattle.sheet_length.proofs.Lending.{sheet-some}
+use Rattle.circuit_writer.specs.Answer.{circuitText}
+use Rattle.circuit_writer.proofs.Lengths.{circuit-most}
+use Rattle.simulator.specs.Simulation.{Simulates}
+use Rattle.simulator.proofs.Told.{simulated-few}
 use Rattle.run_state.specs.State.{stateOf}
 use Rattle.citronhelm.proofs.Runs.{state-length}
 use Rattle.citronhelm.proofs.Lengths.{normal-enough, sheet-enough, step-enough, text-enough}
@@ -65,6 +69,10 @@ module _ (rule : List ℕ) (f : Formula) (read : parseRule rule ≡ accepted f) 
       by : (o : Outcome) → onOutcome o BytesRefused (Count (3 * normalForm f Plain .rows)) ≡ Count n → n ≤ 384
       by Accepted q = let same : 3 * normalForm f Plain .rows ≡ n = cc in omega (arith, step-enough f Plain fine)
       by (Refused why) q = clash (cc)
+
+  -- a circuit
+  pub circuit-told : (buf : List ℕ) (n : ℕ) → writtenAnswer (circuitText f) buf ≡ Count n → n ≤ 9789
+  circuit-told buf n q = omega (arith, written-length (circuitText f) buf q, circuit-most f fine)
 
   -- a run that begins
   pub begin-told : (buf : List ℕ) (n : ℕ) → writtenAnswer (stateOf f []) buf ≡ Count n → n ≡ 1220
@@ -104,3 +112,7 @@ text-told rule take before after n prints =
       written-length (prints .text) before (sym (prints .delivered .answered)),
       text-enough (parseRule rule) (parseTake take) (prints .text) (prints .is-text),
     )
+
+-- a cycle of a circuit
+pub simulated-told : (circuit inputs latches before after : List ℕ) (n : ℕ) → Simulates circuit inputs latches before after (Count n) → n ≤ 32768
+simulated-told = simulated-few

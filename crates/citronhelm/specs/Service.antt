@@ -21,6 +21,7 @@ use Rattle.sheet_maker.specs.Answer.{MakesOn}
 use Rattle.sheet_length.specs.Answer.{MeasuresOn}
 use Rattle.checking.specs.declared.finding.CheckAnswer.{CheckAnswer}
 use Rattle.checking.specs.Answer.{CheckAnswers, metOutcome}
+use Rattle.simulator.specs.Simulation.{Simulates}
 use Rattle.run.specs.Calls.{GivesVerdict, TakesCycle}
 use Rattle.run_state.specs.State.{stateOf}
 use Rattle.answer_code.specs.Code.{bytesCode, checkCode, judgeCode, makerCode, outcomeCode, refusalCode}
@@ -61,6 +62,12 @@ pub record CheckedAs (f : Formula) (t : Trace) (a : Activation) (r : ℕ) : Type
 pub record PrintedAs (rule take before after : List ℕ) (r : ℕ) : Type 0 where
   pub answer : Bytes
   pub prints : TheOnlyPair (Prints rule take before) after answer
+  pub coded : r ≡ bytesCode answer
+
+-- the outputs and the next latches of a cycle of a circuit, or a refusal
+pub record SimulatedAs (circuit inputs latches before after : List ℕ) (r : ℕ) : Type 0 where
+  pub answer : Bytes
+  pub simulates : TheOnlyPair (Simulates circuit inputs latches before) after answer
   pub coded : r ≡ bytesCode answer
 
 -- what a run is told of a cycle, and its bytes then

@@ -17,7 +17,9 @@ ghost use Rattle.step.specs.Step.{formAnswer, formLeft};
 ghost use Rattle.answer_code.specs.Code.{bytesCode, outcomeCode, refusalCode, signOf};
 ghost use Rattle.rule_and_take.specs.File.{OnFile, OnPair};
 ghost use Rattle.run_state.specs.State.{stateOf};
-ghost use Rattle.citronhelm.specs.Service.{CheckedAs, CycleAs, JudgedAs, MadeAs, MeasuredAs, PrintedAs, Turned, VerdictAs, WrittenAs};
+ghost use Rattle.circuit_writer.specs.Answer.{circuitText};
+ghost use Rattle.citronhelm.specs.Service.{CheckedAs, CycleAs, JudgedAs, MadeAs, MeasuredAs, PrintedAs, SimulatedAs, Turned};
+ghost use Rattle.citronhelm.specs.Service.{VerdictAs, WrittenAs};
 use meeting::Wanted;
 use normal_form::sign::Sign;
 use tables::refusal::Outcome;
@@ -200,6 +202,37 @@ pub extern "C" fn citronhelm_step(
             output,
         )),
     }
+}
+
+// The file of the circuit of a rule's monitors.
+#[no_mangle]
+pub extern "C" fn citronhelm_circuit(rule: &[u8], output: &mut [u8]) -> u64
+    ensures answer { λ r. ⌜ OnFile 1 (parseRule (now (rule .entry))) (Turned (now (output .entry)) (now (output .exit)) r)
+        (λ f. WrittenAs (circuitText f) (now (output .entry)) (now (output .exit)) r) ⌝ }
+{
+    let read = rule_file::rule::read_rule(rule);
+    let outcome = read.outcome;
+    match outcome {
+        Outcome::Refused(refusal) => answer_code::refusal_code(refusal),
+        Outcome::Accepted => answer_code::bytes_code(circuit_writer::write_form(
+            read.formula,
+            output,
+        )),
+    }
+}
+
+// One cycle of the circuit of a file.
+#[no_mangle]
+pub extern "C" fn citronhelm_simulate(
+    circuit: &[u8],
+    inputs: &[u8],
+    latches: &[u8],
+    output: &mut [u8],
+) -> u64
+    ensures answer { λ r. ⌜ SimulatedAs (now (circuit .entry)) (now (inputs .entry)) (now (latches .entry)) (now (output .entry))
+        (now (output .exit)) r ⌝ }
+{
+    answer_code::bytes_code(simulator::simulate(circuit, inputs, latches, output))
 }
 
 // The sheet of a rule and a take.

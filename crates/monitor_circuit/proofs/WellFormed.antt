@@ -100,7 +100,7 @@ module _ (g : NormalForm) where
   currents-are : map (λ (q : Latch). q .current) (circuitOf g .latches) ≡ tabulate (g .rows) (ownFrom (g .signals + g .rows))
   currents-are = map-tabulate (λ (q : Latch). q .current) (g .rows) (λ i. latchOf g (suc i))
 
-  inputs-are : circuitOf g .inputs ≡ tabulate (g .signals + g .rows) (λ i. 2 * suc i)
+  pub inputs-are : circuitOf g .inputs ≡ tabulate (g .signals + g .rows) (λ i. 2 * suc i)
   inputs-are = tables-join (g .signals) (g .rows) _ _ (λ i. 2 * suc i) (λ i h. omega arith) (λ i h. omega arith)
 
   all-are : definedIn (circuitOf g) ≡ tabulate (g .signals + g .rows + (g .rows + 3 * g .rows)) (λ i. 2 * suc i)
@@ -122,7 +122,7 @@ module _ (g : NormalForm) where
   module _ (ok : InNormalForm g) where
     -- ---- what is named
 
-    wiring-low : (i : ℕ) → i < g .rows → Low (gateLiteral g 1 (suc i)) (gateLiteral g 2 (suc i)) (gateLiteral g 3 (suc i)) (wiringOf g (suc i))
+    pub wiring-low : (i : ℕ) → i < g .rows → Low (gateLiteral g 1 (suc i)) (gateLiteral g 2 (suc i)) (gateLiteral g 3 (suc i)) (wiringOf g (suc i))
     wiring-low i h =
         row-low (activatorLiteral g (suc i)) (latchLiteral g (suc i)) (gateLiteral g 1 (suc i)) (gateLiteral g 2 (suc i)) (gateLiteral g 3 (suc i)) (omega arith) (omega arith)
         (omega arith) (omega arith) (signalLiteral g) (activatorLiteral g) (tableOf (g .places) (suc i))

@@ -1,15 +1,16 @@
 -- What is known of the table that the reader leaves, and of the circuit in it. Assumes nothing.
 use Prim.Native.Nat.{ℕ, _+_, _*_, _≤_, _<_}
-use mathlib.Core.Path.{_≡_, sym, ap, subst, subst⁻¹, _∙_}
+use mathlib.Core.Path.{_≡_, refl, sym, ap, subst, subst⁻¹, _∙_}
 use mathlib.Core.List.{List}
 use native.Mathlib.Omega.{arith}
 use lib.ListN.{length, getD}
 use Rattle.tables.specs.declared.refusal.Outcome.the-variants.{Accepted}
+use Rattle.tables.proofs.Choices.{clash}
 use Rattle.tables.proofs.Places.{length-tabulate, getD-tabulate}
-use Rattle.text.specs.Result.{tableOr}
-use Rattle.text.specs.Result.Result.{accepted}
+use Rattle.text.specs.Result.{Result, mapResult, tableOr}
+use Rattle.text.specs.Result.Result.{accepted, refused}
 use Rattle.text.proofs.Answered.{accepted-table}
-use Rattle.circuit.specs.Circuit.{Latch, maximum, outputAt, latchAt, WellFormed}
+use Rattle.circuit.specs.Circuit.{Circuit, Latch, maximum, outputAt, latchAt, WellFormed}
 use Rattle.circuit_file.specs.declared.CircuitTable.{CircuitTable}
 use Rattle.circuit_file.specs.declared.CircuitAnswer.{CircuitAnswer}
 use Rattle.circuit_file.specs.File.{Contents, circuitFrom, parseContents, parseCircuit, flat, tableFrom, circuitIn, noContents, circuitAnswer}
@@ -101,3 +102,15 @@ module _ (t : CircuitTable) where
           let q : latchAt (circuitIn t) i .next ≡ getD (t .numbers) (from + 1 + 2 * i) 0 = e ∙ ap (λ k. getD (t .numbers) k 0) p in
           let l : latchAt (circuitIn t) i .next ≤ 2 * maximum (circuitIn t) + 1 = f .formed .nexts i a in
           omega (arith, l, q, most)
+
+-- A CYCLE OF A CIRCUIT THAT WAS READ HAS 32,768 DIGITS AT MOST
+pub cycle-few : (file : List ℕ) (c : Circuit) → parseCircuit file ≡ accepted c → length (c .outputs) + length (c .latches) ≤ 32768
+cycle-few file c = by (parseContents file) refl
+  where
+    by : (p : Result Contents) → parseContents file ≡ p → mapResult circuitFrom p ≡ accepted c → length (c .outputs) + length (c .latches) ≤ 32768
+    by (refused why n) e q = clash (cc)
+    by (accepted t) e q =
+        let same : circuitFrom t ≡ c = cc in
+        let few = of-file file t e .few in
+        subst (λ x. length (x .outputs) + length (x .latches) ≤ 32768) (table-circuit file t e ∙ same)
+        (omega (arith, few, counted-outputs (tableFrom t), counted-latches (tableFrom t)))

@@ -2,3 +2,4 @@ pub mod Digits
 pub mod Files
 pub mod Cycle
 pub mod Once
+pub mod Told

@@ -1,0 +1,6 @@
+pub mod Lines
+pub mod Sections
+pub mod Small
+pub mod Whole
+pub mod Answers
+pub mod Lengths
