@@ -24,7 +24,7 @@ use Rattle.circuit_writer.specs.Answer.{circuitText}
 use Rattle.circuit_writer.specs.Section.{gateLines, inputLines, latchLines, outputLines, saidLines}
 use Rattle.circuit_writer.specs.declared.section.Said.{Said}
 use Rattle.circuit_writer.specs.declared.section.Said.the-variants.{Failed, Accept, Pending}
-use Rattle.circuit_writer.proofs.Lines.{Blocks, blocksTo, lines-append}
+use Rattle.line_writer.proofs.Lines.{Blocks, blocksTo, lines-append}
 use Rattle.circuit_writer.proofs.Sections.{gate-blocks, gateBlock, gateLine, input-blocks, inputBlock, latch-blocks, latchBlock, outputs-parted, said-blocks, saidBlock}
 use Rattle.circuit_writer.proofs.Small.{FourDigits, gate-small, latch-small, row-small, said-small}
 use Rattle.circuit_writer.proofs.Whole.{file-parted, headerFrom}

@@ -1,4 +1,3 @@
-pub mod Lines
 pub mod Sections
 pub mod Small
 pub mod Whole

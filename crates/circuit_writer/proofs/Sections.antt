@@ -24,7 +24,7 @@ use Rattle.row_wiring.specs.Own.{ownOf, wiringAs, wiringAt}
 use Rattle.circuit_writer.specs.Section.{gateLines, inputLines, latchLines, outputLines, saidLines, saidOf}
 use Rattle.circuit_writer.specs.declared.section.Said.{Said}
 use Rattle.circuit_writer.specs.declared.section.Said.the-variants.{Failed, Accept, Pending}
-use Rattle.circuit_writer.proofs.Lines.{Blocks, PutTo, blocksTo, more-lines, put-more, single-blocks}
+use Rattle.line_writer.proofs.Lines.{Blocks, PutTo, blocksTo, more-lines, put-more, single-blocks}
 
 abbrev pub inputBlock : Blocks
 inputBlock i = (2 * suc i ∷ []) ∷ []

@@ -10,7 +10,7 @@ use Rattle.circuit_file.specs.Written.{headerOf, linesOf, writtenCircuit, writt
 use Rattle.monitor_circuit.specs.Monitors.{circuitOf}
 use Rattle.monitor_circuit.proofs.WellFormed.{gates-size, inputs-size, latches-size, maximum-is, outputs-size}
 use Rattle.circuit_writer.specs.Section.{gateLines, inputLines, latchLines, outputLines}
-use Rattle.circuit_writer.proofs.Lines.{lines-append, more-lines}
+use Rattle.line_writer.proofs.Lines.{lines-append, more-lines}
 
 module _ (g : NormalForm) where
   -- the header's numbers from those of signals and rows
@@ -28,11 +28,21 @@ module _ (g : NormalForm) where
       ∙ (ap (λ t. bytes "aag " ++ t) (sym (lines-append (headerFrom ∷ []) (linesOf (circuitOf g))))
       ∙ ap (λ h. bytes "aag " ++ writtenLines (h ∷ linesOf (circuitOf g))) header-is)
 
-  pub circuit-put : {before a b c d after : List ℕ} {i j k l end : ℕ} → Wrote before 0 (bytes "aag " ++ writtenLines (headerFrom ∷ [])) a i
+  -- the header has the numbers m i l o a
+  pub circuit-put : {before a b c d after : List ℕ} {i j k l end numberM numberI numberL numberO numberA : ℕ}
+      → Wrote before 0 (bytes "aag " ++ writtenLines ((numberM ∷ numberI ∷ numberL ∷ numberO ∷ numberA ∷ []) ∷ [])) a i
+      → (numberM ≡ g .signals + 5 * g .rows) × (numberI ≡ g .signals + g .rows) × (numberL ≡ g .rows) × (numberO ≡ 3 * g .rows) × (numberA ≡ 3 * g .rows)
       → Wrote a i (writtenLines (inputLines g)) b j → Wrote b j (writtenLines (latchLines g)) c k → Wrote c k (writtenLines (outputLines g)) d l
       → Wrote d l (writtenLines (gateLines g)) after end → Wrote before 0 (writtenCircuit (circuitOf g)) after end
-  circuit-put header inputs latches outputs gates =
+  circuit-put {before} {a} {i = at} {numberM = m} {numberI = i} {numberL = l} {numberO = o} {numberA = n} header e inputs latches outputs gates =
+      let em = e .0 in
+      let ei = e .1 in
+      let el = e .2 in
+      let eo = e .3 in
+      let ea = e .4 in
+      let same : m ∷ i ∷ l ∷ o ∷ n ∷ [] ≡ headerFrom = cc in
+      let first : Wrote before 0 (bytes "aag " ++ writtenLines (headerFrom ∷ [])) a at = wrote-is (ap (λ h. bytes "aag " ++ writtenLines (h ∷ [])) same) header in
       wrote-is file-parted
-      (wrote-both header
+      (wrote-both first
       (more-lines (inputLines g) (latchLines g ++ (outputLines g ++ gateLines g)) inputs
       (more-lines (latchLines g) (outputLines g ++ gateLines g) latches (more-lines (outputLines g) (gateLines g) outputs gates))))

@@ -15,7 +15,6 @@ use tables::row::Formula;
 use tables::row::NormalForm;
 use writing::answer::Bytes;
 
-pub mod line;
 pub mod section;
 
 // The whole file, at the buffer's start. A number takes six bytes at most with the byte behind it, and a form of 32 signals and 128 rows
@@ -26,7 +25,7 @@ fn put_circuit(buf: &mut [u8], form: NormalForm) -> usize
 {
     let signals = form.signals as u32;
     let rows = form.rows as u32;
-    let a = line::put_header(
+    let a = line_writer::put_header(
         &mut *buf,
         signals + 5 * rows,
         signals + rows,

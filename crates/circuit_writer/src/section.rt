@@ -7,9 +7,9 @@ ghost use Rattle.circuit_file.specs.Written.{writtenLines};
 ghost use Rattle.normal_form.specs.Form.{InNormalForm};
 ghost use Rattle.row_wiring.specs.Own.{wiringAs};
 ghost use Rattle.circuit_writer.specs.Section.{gateLines, inputLines, latchLines, outputLines, saidLines, saidOf};
-use crate::line::put_one;
-use crate::line::put_three;
-use crate::line::put_two;
+use line_writer::put_one;
+use line_writer::put_three;
+use line_writer::put_two;
 use row_wiring::Wiring;
 use tables::row::NormalForm;
 

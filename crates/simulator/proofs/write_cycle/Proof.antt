@@ -12,7 +12,7 @@ returns : tie.Need-returns
 returns c =
     let start = c .before .before .before .before .before .before .before in
     let t = tableWith (start .args .header) (start .args .numbers .now) in
-    no-room t (start .args .inputs .now) (start .args .latches .now) (start .pre .0) (c .before .if1 .taken) (c .too-short .ensures)
+    no-room t (start .args .inputs .now) (start .args .latches .now) (start .pre .0) (omega (arith, c .before .if1 .taken)) (c .too-short .ensures)
 
 evaluate-requires : tie.Need-evaluate-requires
 evaluate-requires c κs =
@@ -32,7 +32,7 @@ put-values-requires-2 c κs =
     let t = tableWith (start .args .header) (start .args .numbers .now) in
     let evaluate = c .before .before .before .before .before .before .before .before .before .before .before .evaluate in
     let put = c .before .before .before .before .before .put-values in
-    ((nexts-spread t (start .pre .0), room-behind t (evaluate .last .0) (c .before .before .before .before .before .before .before .before .before .before .before .before .before .if1 .left) (put .ensures)), nexts-within t (start .pre .0) _ (evaluate .ensures .1))
+    ((nexts-spread t (start .pre .0), room-behind t (evaluate .last .0) (omega (arith, c .before .before .before .before .before .before .before .before .before .before .before .before .before .if1 .left)) (put .ensures)), nexts-within t (start .pre .0) _ (evaluate .ensures .1))
 
 returns-2 : tie.Need-returns-2
 returns-2 c =

@@ -1,6 +1,6 @@
 use Prim.Native.Nat.{_-_, _≤_, _<_}
 use native.Mathlib.Omega.{arith}
-use Rattle.circuit_writer.proofs.Lines.{PutTo, put-all, put-none}
+use Rattle.line_writer.proofs.Lines.{PutTo, put-all, put-none}
 use Rattle.circuit_writer.proofs.Sections.{gate-blocks, gate-more, gateBlock}
 use Rattle.circuit_writer.proofs.Small.{read-small, third-small}
 use borrow.Author.Needs.{needs}

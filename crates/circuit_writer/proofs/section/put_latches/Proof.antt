@@ -1,6 +1,6 @@
 use Prim.Native.Nat.{_-_, _≤_}
 use native.Mathlib.Omega.{arith}
-use Rattle.circuit_writer.proofs.Lines.{PutTo, put-all, put-none}
+use Rattle.line_writer.proofs.Lines.{PutTo, put-all, put-none}
 use Rattle.circuit_writer.proofs.Sections.{latch-blocks, latch-more, latchBlock}
 use Rattle.circuit_writer.proofs.Small.{read-small}
 use borrow.Author.Needs.{needs}

@@ -2,7 +2,7 @@ use mathlib.Core.Path.{ap}
 use native.Mathlib.Omega.{arith}
 use Rattle.writing.proofs.Texts.{wrote-is}
 use Rattle.circuit_file.specs.Written.{writtenLines}
-use Rattle.circuit_writer.proofs.Lines.{more-lines}
+use Rattle.line_writer.proofs.Lines.{more-lines}
 use Rattle.circuit_writer.proofs.Sections.{outputs-parted}
 use borrow.Author.Needs.{needs}
 use Rattle.circuit_writer.proofs.section.put_outputs.Statement.{statement}

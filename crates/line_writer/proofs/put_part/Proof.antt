@@ -1,8 +1,8 @@
 use native.Mathlib.Omega.{arith}
 use Rattle.writing.proofs.Texts.{wrote-both}
 use borrow.Author.Needs.{needs}
-use Rattle.circuit_writer.proofs.line.put_part.Statement.{statement}
-use Rattle.circuit_writer.proofs.line.put_part.Tie as tie
+use Rattle.line_writer.proofs.put_part.Statement.{statement}
+use Rattle.line_writer.proofs.put_part.Tie as tie
 
 returns : tie.Need-returns
 returns c = (wrote-both (c .before .before .before .before .before .before .put-number .ensures .0) (c .before .before .put-byte .ensures), omega (arith, c .before .before .before .before .before .before .put-number .ensures .1, c .before .before .put-byte .ensures .next))

@@ -1,8 +1,8 @@
 use native.Mathlib.Omega.{arith}
-use Rattle.circuit_writer.proofs.Lines.{last-part, more-part}
+use Rattle.line_writer.proofs.Lines.{last-part, more-part}
 use borrow.Author.Needs.{needs}
-use Rattle.circuit_writer.proofs.line.put_three.Statement.{statement}
-use Rattle.circuit_writer.proofs.line.put_three.Tie as tie
+use Rattle.line_writer.proofs.put_three.Statement.{statement}
+use Rattle.line_writer.proofs.put_three.Tie as tie
 
 returns : tie.Need-returns
 returns c = (more-part _ _ _ (c .before .before .before .before .before .before .before .before .before .before .put-part .ensures .0) (more-part _ _ _ (c .before .before .before .before .before .before .put-part2 .ensures .0) (last-part _ (c .before .before .put-part3 .ensures .0))), omega (arith, c .before .before .before .before .before .before .before .before .before .before .put-part .ensures .1, c .before .before .before .before .before .before .put-part2 .ensures .1, c .before .before .put-part3 .ensures .1))

@@ -1,4 +1,4 @@
-// Lines of one, two or three numbers, and the header.
+// Lines of circuit files into lent buffers: of one, two or three numbers, and the header.
 ghost use mathlib.Core.List.{[], _∷_, _++_};
 ghost use Prim.Native.Nat.{_+_, _≤_, _<_};
 ghost use lib.ListN.{length};

@@ -1,7 +1,7 @@
-use Rattle.circuit_writer.proofs.Lines.{last-part}
+use Rattle.line_writer.proofs.Lines.{last-part}
 use borrow.Author.Needs.{needs}
-use Rattle.circuit_writer.proofs.line.put_one.Statement.{statement}
-use Rattle.circuit_writer.proofs.line.put_one.Tie as tie
+use Rattle.line_writer.proofs.put_one.Statement.{statement}
+use Rattle.line_writer.proofs.put_one.Tie as tie
 
 returns : tie.Need-returns
 returns c = (last-part _ (c .before .before .put-part .ensures .0), c .before .before .put-part .ensures .1)

@@ -1,9 +1,9 @@
 use native.Mathlib.Omega.{arith}
 use Rattle.writing.proofs.Texts.{wrote-both}
-use Rattle.circuit_writer.proofs.Lines.{last-part, more-part}
+use Rattle.line_writer.proofs.Lines.{last-part, more-part}
 use borrow.Author.Needs.{needs}
-use Rattle.circuit_writer.proofs.line.put_header.Statement.{statement}
-use Rattle.circuit_writer.proofs.line.put_header.Tie as tie
+use Rattle.line_writer.proofs.put_header.Statement.{statement}
+use Rattle.line_writer.proofs.put_header.Tie as tie
 
 returns : tie.Need-returns
 returns c = (wrote-both (c .before .before .before .before .before .before .before .before .before .before .before .before .before .before .before .before .before .before .before .before .before .before .put .ensures) (more-part _ _ _ (c .before .before .before .before .before .before .before .before .before .before .before .before .before .before .before .before .before .before .put-part .ensures .0) (more-part _ _ _ (c .before .before .before .before .before .before .before .before .before .before .before .before .before .before .put-part2 .ensures .0) (more-part _ _ _ (c .before .before .before .before .before .before .before .before .before .before .put-part3 .ensures .0) (more-part _ _ _ (c .before .before .before .before .before .before .put-part4 .ensures .0) (last-part _ (c .before .before .put-part5 .ensures .0)))))), omega (arith, c .before .before .before .before .before .before .before .before .before .before .before .before .before .before .before .before .before .before .before .before .before .before .put .ensures .next, c .before .before .before .before .before .before .before .before .before .before .before .before .before .before .before .before .before .before .put-part .ensures .1, c .before .before .before .before .before .before .before .before .before .before .before .before .before .before .put-part2 .ensures .1, c .before .before .before .before .before .before .before .before .before .before .put-part3 .ensures .1, c .before .before .before .before .before .before .put-part4 .ensures .1, c .before .before .put-part5 .ensures .1))
