@@ -10,6 +10,7 @@ use crate::rule::Rule;
 use crate::run::Run;
 use crate::sheet::{checked, made, Finding, Sheet};
 use crate::take::{Take, MOST_CYCLES};
+use crate::wiring::monitors;
 
 /// Reads a rule file.
 pub fn read_rule(rule: &[u8]) -> Result<(), Refusal> {
@@ -86,7 +87,6 @@ pub fn step(
     output: &mut [u8],
 ) -> Result<usize, Refusal> {
     let normal = normal_form(&Rule::read(rule)?, false);
-    let bits = |digits: &[u8]| digits.iter().map(|byte| digit(char::from(*byte))).collect::<Option<Vec<bool>>>();
     let (Some(pendings), Some(activators), Some(signals)) = (bits(pendings), bits(activators), bits(signals)) else {
         return Err(Refusal::of_call(2));
     };
@@ -100,8 +100,27 @@ pub fn step(
     let failed = given.iter().map(|row| row.failed);
     let accept = given.iter().map(|row| row.accept);
     let pending = given.iter().map(|row| row.pending);
-    let digits: Vec<u8> = failed.chain(accept).chain(pending).map(|bit| if bit { b'1' } else { b'0' }).collect();
-    write(&digits, output)
+    write(&digits(failed.chain(accept).chain(pending)), output)
+}
+
+/// Writes the circuit of a rule's monitors; its length.
+pub fn circuit(rule: &[u8], output: &mut [u8]) -> Result<usize, Refusal> {
+    write(monitors(&normal_form(&Rule::read(rule)?, false)).to_string().as_bytes(), output)
+}
+
+/// One cycle of a circuit: writes the outputs, then the next latches; the number of digits.
+pub fn simulate(circuit: &[u8], inputs: &[u8], latches: &[u8], output: &mut [u8]) -> Result<usize, Refusal> {
+    let circuit = Circuit::read(circuit)?;
+    let (Some(inputs), Some(latches)) = (bits(inputs), bits(latches)) else {
+        return Err(Refusal::of_call(2));
+    };
+    if inputs.len() != circuit.inputs.len() {
+        return Err(Refusal::of_call(7));
+    }
+    if latches.len() != circuit.latches.len() {
+        return Err(Refusal::of_call(9));
+    }
+    write(&digits(circuit.cycle(&inputs, &latches).into_iter()), output)
 }
 
 /// The length of the sheet of a rule and a take; 0 if there is none.
@@ -159,6 +178,16 @@ pub fn run_verdict(run: &[u8]) -> Result<Verdict, Refusal> {
     let run = Run::read(run).ok_or(Refusal::of_call(4))?;
     let verdict = judge_open(run.rule.to_string().as_bytes(), run.take().as_bytes());
     verdict.map_err(|refusal| Refusal::of_call(refusal.number))
+}
+
+/// What digits 0 and 1 say; nothing where another byte is among them.
+fn bits(digits: &[u8]) -> Option<Vec<bool>> {
+    digits.iter().map(|byte| digit(char::from(*byte))).collect()
+}
+
+/// The digits that say this.
+fn digits(bits: impl Iterator<Item = bool>) -> Vec<u8> {
+    bits.map(|bit| if bit { b'1' } else { b'0' }).collect()
 }
 
 /// Puts bytes at the front of the output; their number.

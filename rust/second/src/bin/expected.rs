@@ -4,8 +4,8 @@
 #![forbid(unsafe_code)]
 
 use second::{
-    bound, check_sheet, judge_text, make_sheet, normal, normal_length, read_circuit, read_rule, read_sheet, read_take,
-    run_begin, run_cycle, run_rule, run_verdict, sheet_length, step, Finding, Refusal,
+    bound, check_sheet, circuit, judge_text, make_sheet, normal, normal_length, read_circuit, read_rule, read_sheet,
+    read_take, run_begin, run_cycle, run_rule, run_verdict, sheet_length, simulate, step, Finding, Refusal,
 };
 
 /// The longest text of `judge` or `sheet`: a sheet of 128 rows and 256 cycles.
@@ -37,11 +37,15 @@ fn answer(words: &[&str]) -> Result<String, Refusal> {
         ["bound", rule] => bound(&load(rule)).map(|bytes| format!("bound={bytes}\n")),
         ["normal_length", rule] => normal_length(&load(rule), false).map(length),
         ["negated_length", rule] => normal_length(&load(rule), true).map(length),
-        ["normal", rule, size] => lent(rule, size, |rule, output| normal(rule, false, output)),
-        ["negated", rule, size] => lent(rule, size, |rule, output| normal(rule, true, output)),
-        ["step", rule, pendings, activators, signals, size] => lent(rule, size, |rule, output| {
+        ["normal", rule, size] => of_rule(rule, size, |rule, output| normal(rule, false, output)),
+        ["negated", rule, size] => of_rule(rule, size, |rule, output| normal(rule, true, output)),
+        ["step", rule, pendings, activators, signals, size] => of_rule(rule, size, |rule, output| {
             step(rule, pendings.as_bytes(), activators.as_bytes(), signals.as_bytes(), output)
         }),
+        ["circuit", rule, size] => of_rule(rule, size, circuit),
+        ["simulate", circuit, inputs, latches, size] => {
+            Ok(lent(size, |output| simulate(&load(circuit), inputs.as_bytes(), latches.as_bytes(), output)))
+        }
         ["judge", rule, take] => Ok(judged(rule, take)),
         ["sheet_length", rule, take] => sheet_length(&load(rule), &load(take)).map(length),
         ["sheet", rule, take] => {
@@ -61,19 +65,22 @@ fn load(name: &str) -> Vec<u8> {
     std::fs::read(name).unwrap_or_default()
 }
 
-/// The answer of a service with a rule and so many bytes lent, and all of these as the call left them. A rule that is refused has no
-/// table to call the service with.
-fn lent(
+/// The answer of a service with so many bytes lent, and all of these as the call left them.
+fn lent(size: &str, service: impl FnOnce(&mut [u8]) -> Result<usize, Refusal>) -> String {
+    let mut output = vec![b'.'; size.parse().expect("a size")];
+    let said = service(&mut output).map_or_else(|refusal| refusal.to_string(), |length| format!("written={length}\n"));
+    format!("{said}{}\n", String::from_utf8_lossy(&output))
+}
+
+/// The same of a service with a rule. A rule that is refused has no table to call the service with.
+fn of_rule(
     rule: &str,
     size: &str,
     service: impl FnOnce(&[u8], &mut [u8]) -> Result<usize, Refusal>,
 ) -> Result<String, Refusal> {
     let rule = load(rule);
     read_rule(&rule)?;
-    let mut output = vec![b'.'; size.parse().expect("a size")];
-    let said =
-        service(&rule, &mut output).map_or_else(|refusal| refusal.to_string(), |length| format!("written={length}\n"));
-    Ok(format!("{said}{}\n", String::from_utf8_lossy(&output)))
+    Ok(lent(size, |output| service(&rule, output)))
 }
 
 /// The text that a service writes, if it writes one.
