@@ -25,13 +25,15 @@
  *    4  a count lies outside its range
  *    5  a signal number is 0 or above `signals`, or an operand is 0 or not below its row
  *    6  the loop's cycle is not below `cycles`
- *    7  rule and take differ in `signals`
+ *    7  rule and take differ in `signals`; in citronhelm_simulate, the number of inputs is not the circuit's
  *    8  a looped service has an open take, or an open service a looped one
- *    9  the sheet's rows or cycles differ from the normal form's or the take's
+ *    9  the sheet's rows or cycles differ from the normal form's or the take's; in citronhelm_simulate, the number of latches is not the
+ *       circuit's
  *   10  the output is shorter than what is to be written
  *   11  a run has 256 cycles already, and one more is handed over
- * File: 1 rule, 2 take, 3 sheet. Line: from 1; 0 for refusal 1. File and line are 0 for 7 to 11, for a 2 of citronhelm_step that is
- * not the rule's (by that it is told from one that is), and for every refusal of citronhelm_run_cycle and citronhelm_run_verdict.
+ * File: 1 rule, 2 take, 3 sheet; 1 circuit in citronhelm_simulate. Line: from 1; 0 for refusal 1. File and line are 0 for 7 to 11, for a
+ * 2 of citronhelm_step or citronhelm_simulate that is not the file's (by that it is told from one that is), and for every refusal of
+ * citronhelm_run_cycle and citronhelm_run_verdict.
  * Files are read in the order rule, take, sheet; the first fault is the one that is told.
  */
 #ifndef CITRONHELM_H
@@ -52,6 +54,9 @@ extern "C" {
 
 /* How many bytes a run has. */
 #define CITRONHELM_RUN 1220u
+
+/* Bytes always enough for a circuit file: citronhelm_circuit. */
+#define CITRONHELM_CIRCUIT 9789u
 
 /*
  * How much stack a call needs at most, in bytes below the call: measured and rounded up; the machine code takes no more on any input
@@ -76,6 +81,8 @@ extern "C" {
 #define CITRONHELM_STACK_RUN_BEGIN 5120u
 #define CITRONHELM_STACK_RUN_CYCLE 10240u
 #define CITRONHELM_STACK_RUN_VERDICT 17408u
+#define CITRONHELM_STACK_CIRCUIT 0u  /* TODO-STACK */
+#define CITRONHELM_STACK_SIMULATE 0u /* TODO-STACK */
 
 /* Whether an answer is a refusal; its number, file and line. */
 static inline int citronhelm_refused(uint64_t answer) { return (int)(answer >> 63); }
@@ -223,6 +230,28 @@ uint64_t citronhelm_run_cycle(uint8_t *run, size_t run_length, const uint8_t *di
  * CITRONHELM_BROKEN or CITRONHELM_OPEN). The run goes on as if nobody had asked. Refused with 4: no state of a run, or no cycle yet.
  */
 uint64_t citronhelm_run_verdict(const uint8_t *run, size_t run_length);
+
+/*
+ * Writes a rule's monitors as a circuit, an ASCII AIGER file (docs/CIRCUIT.md says which gates and literals it has). Its inputs are the
+ * signals, then each normal-form row's activator; there is one latch for each row, its pending one cycle earlier; its outputs are failed,
+ * then accept, then pending, each by row. Answers its length; at most CITRONHELM_CIRCUIT bytes. Refusals behind the rule's own: 10.
+ *
+ * Simulated from latches at '0', the file gives in each cycle the digits that citronhelm_step gives from a fresh start.
+ */
+uint64_t citronhelm_circuit(const uint8_t *rule, size_t rule_length, uint8_t *output, size_t output_length);
+
+/*
+ * One cycle of the circuit in an ASCII AIGER file. Inputs and latches are digits, the bytes '0' and '1', in the order of the file. Writes
+ * the digits of the outputs, then of the next latches, and answers their number, which is that of outputs and latches together: fewer than
+ * 32,768 in any file.
+ *
+ * The file has no symbols and no comments, numbers of at most five digits without leading zeros, a maximum index that is the number of
+ * inputs, latches and gates together, and gates whose operands have lower literals; in whatever order its literals and its gates are.
+ * Refusals behind its own (1 and 2, file 1): 2 (another byte than '0' or '1'), 7 (number of inputs), 9 (number of latches), 10.
+ */
+uint64_t citronhelm_simulate(
+    const uint8_t *circuit, size_t circuit_length, const uint8_t *inputs, size_t inputs_length, const uint8_t *latches,
+    size_t latches_length, uint8_t *output, size_t output_length);
 
 #ifdef __cplusplus
 }

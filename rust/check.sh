@@ -42,6 +42,15 @@ exact_answers() {
     done
     "$@" "$root/examples/refusal/take.txt" >"$scratch/answer" && printf 'refused=2\nfile=1\nline=3\n' | diff "$scratch/answer" -
 }
+
+# What a program that writes circuits prints must be those in examples/. A take in the place of a rule is refused.
+circuit_answers() {
+    local expected
+    for expected in "$root"/examples/*/expected-circuit.txt; do
+        "$@" "${expected%/*}/rule.txt" >"$scratch/answer" && diff "$scratch/answer" "$expected" || return 1
+    done
+    "$@" "$root/examples/refusal/take.txt" >"$scratch/answer" && printf 'refused=2\nfile=1\nline=3\n' | diff "$scratch/answer" -
+}
 root=$PWD
 printf '01\n%.0s' {1..257} >"$scratch/cycles"
 { printf 'open\n%.0s' {1..256} && echo refused=11; } >"$scratch/watched"
@@ -62,6 +71,8 @@ quietly "${compile[@]}" examples/c/watch.c "$CITRONHELM_LIB/libcitronhelm.a" -o 
 quietly watch_answers "$scratch/watch"
 quietly "${compile[@]}" examples/c/exact.c "$CITRONHELM_LIB/libcitronhelm.a" -o "$scratch/exact"
 quietly exact_answers "$scratch/exact"
+quietly "${compile[@]}" examples/c/circuit.c "$CITRONHELM_LIB/libcitronhelm.a" -o "$scratch/circuit"
+quietly circuit_answers "$scratch/circuit"
 judged=0
 for folder in examples/*/; do
     [ -e "${folder}rule.txt" ] && [ -e "${folder}take.txt" ] && [ -e "${folder}expected.txt" ] || continue
@@ -81,6 +92,7 @@ tail -n 1 "$scratch/said"
 quietly rust_answers ../examples/rule_a/rule.txt ../examples/rule_a/take.txt verdict=holds
 quietly watch_answers cargo run --quiet --offline --locked --release --example watch --
 quietly exact_answers cargo run --quiet --offline --locked --release --example exact --
+quietly circuit_answers cargo run --quiet --offline --locked --release --example circuit --
 cargo run --quiet --offline --locked --release -p compare
-echo "rust/check.sh: C judged $judged examples, watched a run, lent exact lengths and stepped in place; the Rust crates' tests pass;" \
-    "library and second implementation agree"
+echo "rust/check.sh: C judged $judged examples, watched a run, lent exact lengths, wrote a circuit and stepped in place; the Rust crates'" \
+    "tests pass; library and second implementation agree"

@@ -64,6 +64,17 @@ extern "C" {
     fn citronhelm_run_begin(rule: *const u8, rule_length: usize, run: *mut u8, run_length: usize) -> u64;
     fn citronhelm_run_cycle(run: *mut u8, run_length: usize, digits: *const u8, digits_length: usize) -> u64;
     fn citronhelm_run_verdict(run: *const u8, run_length: usize) -> u64;
+    fn citronhelm_circuit(rule: *const u8, rule_length: usize, output: *mut u8, output_length: usize) -> u64;
+    fn citronhelm_simulate(
+        circuit: *const u8,
+        circuit_length: usize,
+        inputs: *const u8,
+        inputs_length: usize,
+        latches: *const u8,
+        latches_length: usize,
+        output: *mut u8,
+        output_length: usize,
+    ) -> u64;
 }
 
 pub fn read_rule(rule: &[u8]) -> u64 {
@@ -153,4 +164,23 @@ pub fn run_cycle(run: &mut [u8], digits: &[u8]) -> u64 {
 
 pub fn run_verdict(run: &[u8]) -> u64 {
     unsafe { citronhelm_run_verdict(run.as_ptr(), run.len()) }
+}
+
+pub fn circuit(rule: &[u8], output: &mut [u8]) -> u64 {
+    unsafe { citronhelm_circuit(rule.as_ptr(), rule.len(), output.as_mut_ptr(), output.len()) }
+}
+
+pub fn simulate(circuit: &[u8], inputs: &[u8], latches: &[u8], output: &mut [u8]) -> u64 {
+    unsafe {
+        citronhelm_simulate(
+            circuit.as_ptr(),
+            circuit.len(),
+            inputs.as_ptr(),
+            inputs.len(),
+            latches.as_ptr(),
+            latches.len(),
+            output.as_mut_ptr(),
+            output.len(),
+        )
+    }
 }

@@ -10,9 +10,10 @@
 //! Numbers in a file's values may have leading zeros, five digits in all at most, as in `cycles=00012`. Numbers in its keys (`r1=`,
 //! `c0=`, `z1=`) may not, and the digits of `c` and `z` lines are no numbers. What is written has no leading zeros.
 //!
-//! The services have no state and need no memory but the caller's; the two functions whose names end in `_vec` allocate, no more than they
+//! The services have no state and need no memory but the caller's; the functions whose names end in `_vec` allocate, no more than they
 //! return. How long an output has to be is said beforehand by [`normal_length`] for [`normal`] and by [`sheet_length`] for [`make_sheet`].
-//! [`Monitors`] keeps what [`step`] needs from one cycle to the next, and [`Run`] judges a take while it is recorded.
+//! [`Monitors`] keeps what [`step`] needs from one cycle to the next, and [`Run`] judges a take while it is recorded. For hardware checkers
+//! [`circuit`] writes the monitors as an ASCII AIGER file, and [`simulate`] runs such a file.
 //!
 //! The example below, which the other examples use as well, says: always, when signal 1 is on, sooner or later signal 2 is.
 //!
@@ -44,6 +45,7 @@
 
 #![deny(unsafe_code)]
 
+mod circuits;
 mod declarations;
 mod finding;
 mod judging;
@@ -54,6 +56,7 @@ mod sheets;
 mod steps;
 mod verdict;
 
+pub use circuits::{circuit, circuit_vec, simulate, MOST_CIRCUIT};
 pub use finding::Finding;
 pub use judging::{judge, judge_looped, judge_open, judge_text, MOST_TEXT};
 pub use reading::{bound, normal, normal_length, normal_vec, read_rule, read_sheet, read_take, rows, MOST_NORMAL};

@@ -8,8 +8,8 @@ use std::fmt;
 pub enum Reason {
     /// 1: the file is longer than 65,536 bytes.
     TooLong = 1,
-    /// 2: a line is absent, surplus or not of the form given for its place. In [`step`](crate::step) and
-    /// [`run_cycle`](crate::run_cycle) also, with no file: a byte is neither `'0'` nor `'1'`.
+    /// 2: a line is absent, surplus or not of the form given for its place. In [`step`](crate::step), [`run_cycle`](crate::run_cycle)
+    /// and [`simulate`](crate::simulate) also, with no file: a byte is neither `'0'` nor `'1'`.
     WrongForm = 2,
     /// 3: the format is not 1.
     WrongFormat = 3,
@@ -21,12 +21,13 @@ pub enum Reason {
     /// 6: the loop's cycle is not below `cycles`.
     LoopOutOfRange = 6,
     /// 7: rule and take differ in `signals`; in [`step`](crate::step) and [`run_cycle`](crate::run_cycle), the number of signals
-    /// is not the rule's.
+    /// is not the rule's; in [`simulate`](crate::simulate), that of inputs is not the circuit's.
     DifferentSignals = 7,
     /// 8: a looped service has an open take, or an open service a looped one.
     OtherKindOfTake = 8,
     /// 9: the sheet's rows or cycles differ from the normal form's or the take's; in [`step`](crate::step), the number of
-    /// pendings or activators is not that of the normal form's rows.
+    /// pendings or activators is not that of the normal form's rows; in [`simulate`](crate::simulate), that of latches is not the
+    /// circuit's.
     DifferentSize = 9,
     /// 10: the lent output is shorter than what is to be written.
     OutputTooShort = 10,
@@ -36,14 +37,15 @@ pub enum Reason {
 
 /// Which file is at fault.
 #[derive(Clone, Copy, Debug, PartialEq, Eq, PartialOrd, Ord, Hash)]
-#[repr(u8)]
 pub enum File {
     /// File 1.
-    Rule = 1,
+    Rule,
     /// File 2.
-    Take = 2,
+    Take,
     /// File 3.
-    Sheet = 3,
+    Sheet,
+    /// File 1 of [`simulate`](crate::simulate), which has no other.
+    Circuit,
 }
 
 /// A refusal: the first fault of a call. Files are read in the order rule, take, sheet.
@@ -99,7 +101,18 @@ impl File {
     /// assert_eq!(citronhelm::File::Sheet.number(), 3);
     /// ```
     pub fn number(self) -> u8 {
-        self as u8
+        match self {
+            File::Rule | File::Circuit => 1,
+            File::Take => 2,
+            File::Sheet => 3,
+        }
+    }
+}
+
+impl Refusal {
+    /// The same where the first file is a circuit.
+    pub(crate) fn of_circuit(self) -> Refusal {
+        Refusal { file: self.file.map(|_| File::Circuit), ..self }
     }
 }
 
@@ -112,9 +125,9 @@ impl fmt::Display for Reason {
             Reason::CountOutOfRange => "a count lies outside its range",
             Reason::NumberOutOfRange => "a signal or operand number is out of range",
             Reason::LoopOutOfRange => "the loop's cycle is not below the number of cycles",
-            Reason::DifferentSignals => "the numbers of signals differ",
+            Reason::DifferentSignals => "the numbers of signals or inputs differ",
             Reason::OtherKindOfTake => "the take is of the other kind",
-            Reason::DifferentSize => "the numbers of rows or cycles differ",
+            Reason::DifferentSize => "the numbers of rows, cycles or latches differ",
             Reason::OutputTooShort => "the output is too short",
             Reason::TooManyCycles => "the run has 256 cycles already",
         })
@@ -127,6 +140,7 @@ impl fmt::Display for File {
             File::Rule => "rule",
             File::Take => "take",
             File::Sheet => "sheet",
+            File::Circuit => "circuit",
         })
     }
 }
