@@ -41,6 +41,10 @@ pub enum Service {
     RunCycle,
     /// The verdict on a run so far.
     RunVerdict,
+    /// Writes the circuit of a rule's monitors.
+    Circuit,
+    /// One cycle of a circuit.
+    Simulate,
 }
 
 /// A call.
@@ -86,7 +90,7 @@ pub struct Outcome {
 
 impl Service {
     /// All services.
-    pub const ALL: [Service; 18] = [
+    pub const ALL: [Service; 20] = [
         Service::ReadRule,
         Service::ReadTake,
         Service::ReadSheet,
@@ -105,6 +109,8 @@ impl Service {
         Service::RunBegin,
         Service::RunCycle,
         Service::RunVerdict,
+        Service::Circuit,
+        Service::Simulate,
     ];
 
     /// How many of its inputs are files; they are the first.
@@ -160,6 +166,8 @@ impl fmt::Display for Service {
             Service::RunBegin => "begin",
             Service::RunCycle => "cycle",
             Service::RunVerdict => "verdict",
+            Service::Circuit => "circuit",
+            Service::Simulate => "simul",
         })
     }
 }

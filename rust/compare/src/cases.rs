@@ -20,6 +20,9 @@ const ALWAYS_TRUE: &[&str] = &["true", "always 1"];
 
 const NORMAL_A: &str = "format=1\nsignals=2\nrows=5\nr1=nsig 1\nr2=sig 2\nr3=ever 2\nr4=or 1 3\nr5=always 4\n";
 const SHEET_A: &str = "format=1\nrows=5\ncycles=2\nz1=01\nz2=01\nz3=11\nz4=11\nz5=11\n";
+const CIRCUIT_A: &str = "aag 27 7 5 15 15\n2\n4\n6\n8\n10\n12\n14\n16 0\n18 0\n20 40\n22 0\n24 51\n26\n32\n0\n46\n52\n1\n1\n41\n1\n1\n\
+    0\n0\n40\n0\n51\n26 6 2\n28 0 0\n30 0 0\n32 8 5\n34 0 0\n36 0 0\n38 11 21\n40 39 9\n42 0 0\n44 7 11\n46 12 44\n48 0 0\n50 15 25\n\
+    52 51 13\n54 0 0\n";
 const TEXT_A: &str = "signals=2\nrows=5\ncycles=2\nloop=0\nverdict=holds\n";
 
 /// Rule A, a take and their sheet as the bench pads them.
@@ -50,6 +53,10 @@ const WRONG_PADDING: &[(u8, &str, &str, u8, u32)] = &[
     (3, "z2=01", "z2=00001", 2, 5),
 ];
 
+/// The format report's or-gate and toggle flip-flop.
+const OR: &str = "aag 3 2 0 1 1\n2\n4\n7\n6 3 5\n";
+const TOGGLE: &str = "aag 1 0 1 2 0\n2 3\n2\n3\n";
+
 /// Rule, loop, cycles, verdict.
 const VERDICTS: &[(&[&str], &str, &[&str], &str)] = &[
     (A, "0", &["10", "01"], "holds"),
@@ -76,9 +83,9 @@ const FINDINGS: &[(&[&str], Answer)] = &[
 
 /// Checks an implementation on every case; the number of cases.
 pub fn check(implementation: Implementation) -> Result<usize, String> {
-    let groups =
-        [verdicts(), sheets(), limits(), written(), lengths(), padded(), wrong_padding(), runs(), wrong_runs()];
-    let cases: Vec<Case> = groups.into_iter().flatten().collect();
+    let files = [verdicts(), sheets(), limits(), written(), lengths(), padded(), wrong_padding()];
+    let others = [runs(), wrong_runs(), circuits(), wrong_circuits()];
+    let cases: Vec<Case> = files.into_iter().chain(others).flatten().collect();
     for Case(call, answer, output) in &cases {
         let outcome = implementation(call);
         if outcome.answer != *answer || !outcome.output.starts_with(output.as_bytes()) {
@@ -241,6 +248,51 @@ fn wrong_runs() -> Vec<Case> {
             .map(|call| Case(call, Answer::Refused(4, 0, 0), ""))
     };
     all.iter().flat_map(cases).collect()
+}
+
+/// The report's or-gate and toggle flip-flop, gates in falling order, and rule A's circuit with two cycles of it.
+fn circuits() -> Vec<Case> {
+    let rule = rule(2, A);
+    let cycle = |circuit: &str, inputs: &str, latches: &str| {
+        Service::Simulate.writing(&[circuit.as_bytes(), inputs.as_bytes(), latches.as_bytes()], vec![b'#'; 21])
+    };
+    let circuit = |room| Service::Circuit.writing(&[&rule], vec![b'#'; room]);
+    let falling = "aag 4 2 0 1 2\n2\n4\n8\n8 6 3\n6 5 1\n";
+    vec![
+        Case(cycle(OR, "00", ""), Answer::Number(1), "0#"),
+        Case(cycle(OR, "10", ""), Answer::Number(1), "1#"),
+        Case(cycle(TOGGLE, "", "0"), Answer::Number(3), "011#"),
+        Case(cycle(TOGGLE, "", "1"), Answer::Number(3), "100#"),
+        Case(cycle(falling, "00", ""), Answer::Number(1), "1#"),
+        Case(cycle(falling, "01", ""), Answer::Number(1), "0#"),
+        Case(circuit(300), Answer::Number(CIRCUIT_A.len()), CIRCUIT_A),
+        Case(circuit(CIRCUIT_A.len()), Answer::Number(CIRCUIT_A.len()), CIRCUIT_A),
+        Case(circuit(CIRCUIT_A.len() - 1), Answer::Refused(10, 0, 0), "#"),
+        Case(Service::Circuit.of(&[b"format=2\n"]), Answer::Refused(3, 1, 1), ""),
+        Case(cycle(CIRCUIT_A, "1000111", "00000"), Answer::Number(20), "00000110110010100101#"),
+        Case(cycle(CIRCUIT_A, "0111111", "00101"), Answer::Number(20), "00000111110000100001#"),
+    ]
+}
+
+/// The refusals of a simulation, each with all that come behind it.
+fn wrong_circuits() -> Vec<Case> {
+    let call = |circuit: &str, inputs: &str, latches: &str, room| {
+        Service::Simulate.writing(&[circuit.as_bytes(), inputs.as_bytes(), latches.as_bytes()], vec![b'#'; room])
+    };
+    let refused = |number, file, line| Answer::Refused(number, file, line);
+    vec![
+        Case(call(&"1".repeat(65_537), "-", "", 0), refused(1, 1, 0), ""),
+        Case(call("aag 4 2 0 1 1\n2\n", "-", "", 0), refused(2, 1, 1), ""),
+        Case(call("aag 2 2 0 0 0\n2\n2\n", "-", "", 0), refused(2, 1, 3), ""),
+        Case(call("aag 2 2 0 0 0\n2\n", "-", "", 0), refused(2, 1, 3), ""),
+        Case(call(&format!("{OR}\n"), "-", "", 0), refused(2, 1, 6), ""),
+        Case(call(OR.trim_end(), "-", "", 0), refused(2, 1, 5), ""),
+        Case(call(TOGGLE, "0", "0-", 0), refused(2, 0, 0), ""),
+        Case(call(TOGGLE, "-", "00", 0), refused(2, 0, 0), ""),
+        Case(call(TOGGLE, "0", "00", 0), refused(7, 0, 0), ""),
+        Case(call(TOGGLE, "", "00", 0), refused(9, 0, 0), ""),
+        Case(call(TOGGLE, "", "0", 2), refused(10, 0, 0), "##"),
+    ]
 }
 
 #[cfg(test)]

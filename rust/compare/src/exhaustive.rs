@@ -1,15 +1,16 @@
-//! All small rules on all small takes, all sheets for the smallest, all short numbers, and all small runs.
+//! All small rules on all small takes, all sheets for the smallest, all short numbers, all small runs, and small circuits.
 
 use crate::call::{Call, Service};
+use crate::circuits;
 use crate::files::{rule, sheet, take, BINARY, UNARY};
 use crate::padding::places;
 use crate::runs;
 use crate::trials::Make;
 use std::ops::Range;
 
-/// Every normal form of rules of up to three rows, every verdict and made sheet for them on takes of up to three cycles with one signal and
-/// of up to two cycles with two, and the lengths of all these; every check of every sheet for rules of up to two rows and takes of up to
-/// three cycles with one signal; numbers; small runs.
+/// Every normal form and circuit of rules of up to three rows, every verdict and made sheet for them on takes of up to three cycles with one
+/// signal and of up to two cycles with two, and the lengths of all these; every check of every sheet for rules of up to two rows and takes
+/// of up to three cycles with one signal; numbers; small runs; small circuits.
 pub fn run(make: Make) -> Result<(), String> {
     for (signals, most_cycles) in [(1, 3), (2, 2)] {
         let takes = takes(signals, most_cycles);
@@ -19,6 +20,7 @@ pub fn run(make: Make) -> Result<(), String> {
                 make(&Call { negated, ..Service::NormalLength.of(&[&rule]) })?;
                 make(&Call { negated, ..Service::Normal.writing(&[&rule], vec![b'#'; 128]) })?;
             }
+            make(&Service::Circuit.writing(&[&rule], vec![b'#'; 256]))?;
             for (_, take) in &takes {
                 make(&Service::Judge.of(&[&rule, take]))?;
                 make(&Service::SheetLength.of(&[&rule, take]))?;
@@ -28,7 +30,8 @@ pub fn run(make: Make) -> Result<(), String> {
     }
     all_sheets(make)?;
     all_numbers(make)?;
-    runs::all_small(make)
+    runs::all_small(make)?;
+    circuits::all_small(make)
 }
 
 fn all_sheets(make: Make) -> Result<(), String> {

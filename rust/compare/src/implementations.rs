@@ -28,6 +28,8 @@ macro_rules! ask {
             Service::RunBegin => answer($services::run_begin(input(0), &mut output), Answer::Number),
             Service::RunCycle => answer($services::run_cycle(&mut output, input(0)), accepted),
             Service::RunVerdict => answer($services::run_verdict(input(0)), verdict),
+            Service::Circuit => answer($services::circuit(input(0), &mut output), Answer::Number),
+            Service::Simulate => answer($services::simulate(input(0), input(1), input(2), &mut output), Answer::Number),
         };
         Outcome { answer, inputs, output }
     }};

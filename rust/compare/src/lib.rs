@@ -1,11 +1,12 @@
 //! Calls of every service, to hold implementations together on: the papers' cases, all small rules and takes, numbers padded and not, and
-//! random calls, valid and damaged; and runs, call after call. What a call leaves is compared whole: the answer, the inputs and every byte
-//! of the output.
+//! random calls, valid and damaged; runs, call after call; and circuits. What a call leaves is compared whole: the answer, the inputs and
+//! every byte of the output.
 
 #![forbid(unsafe_code)]
 
 mod call;
 mod cases;
+mod circuits;
 mod comparison;
 mod damage;
 mod exhaustive;
@@ -22,6 +23,7 @@ mod trials;
 
 pub use call::{Answer, Call, Outcome, Service};
 pub use cases::check as papers_cases;
+pub use circuits::hold_to_steps;
 pub use comparison::{hold_to_length, same, Implementation};
 pub use exhaustive::run as all_small;
 pub use implementations::{by_proved, by_second, by_words};

@@ -1,12 +1,13 @@
-//! Holds the second implementation to the proved library: on the papers' cases, on all small rules and takes, on runs, and on random
-//! calls of every service.
+//! Holds the second implementation to the proved library: on the papers' cases, on all small rules and takes, on runs, on circuits, and on
+//! random calls of every service.
 //!
 //!     compare [--seed N] [--runs N] [--programs FOLDER]
 //!
 //! Every call is made by both, those of `judge` by the bit-parallel judge as well; answer, inputs and the whole output must be the
-//! same. Normal forms and sheets must be as long as the library says beforehand, and refused with 10 exactly where less is lent. At the
-//! first difference the inputs are printed, and the program fails. It also fails where a service never gave one of its possible
-//! answers, or never showed what it does with a padded number: then the calls did not try everything.
+//! same. Normal forms and sheets must be as long as the library says beforehand, and refused with 10 exactly where less is lent. The circuits
+//! of random rules, as the library writes and simulates them, must give what its steps give. At the first difference the inputs are printed,
+//! and the program fails. It also fails where a service never gave one of its possible answers, or never showed what it does with a padded
+//! number: then the calls did not try everything.
 //!
 //! With `--programs` it runs the programs in the folder on the files of the random calls instead, and holds what they print to the second
 //! implementation.
@@ -14,8 +15,8 @@
 #![forbid(unsafe_code)]
 
 use compare::{
-    all_small, by_proved, by_second, by_words, hold_programs, hold_to_length, papers_cases, random_calls, same, Call,
-    Service, Tally,
+    all_small, by_proved, by_second, by_words, hold_programs, hold_to_length, hold_to_steps, papers_cases,
+    random_calls, same, Call, Service, Tally,
 };
 use std::path::PathBuf;
 use std::process::ExitCode;
@@ -77,13 +78,14 @@ fn report(options: &Options) -> Result<(), String> {
         return Ok(());
     }
     let tally = compare(options)?;
+    let cycles = hold_to_steps(by_proved, options.seed, options.runs / 4)?;
     println!("{tally}");
     let faults = tally.faults();
     if !faults.is_empty() {
         return Err(faults.join("\n"));
     }
     println!(
-        "compare: {} calls answered alike, {} of them with padded files that were read, seed {}, {} runs",
+        "compare: {} calls answered alike, {} of them with padded files that were read, {cycles} cycles of circuits as steps, seed {}, {} runs",
         tally.calls(),
         tally.padded_calls(),
         options.seed,

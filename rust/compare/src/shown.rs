@@ -44,10 +44,10 @@ impl Shown {
         Bits,
     ];
 
-    /// Whether a call of this service can show it. Refusals are looked at where a file is read alone.
+    /// Whether a call of this service can show it. Refusals are looked at where a file is read alone; in circuits no number is padded.
     pub fn can_be_of(self, service: Service) -> bool {
         match self {
-            Read => service.files() > 0,
+            Read => service.files() > 0 && service != Service::Simulate,
             FirstCycle | OutOfRange(6) => service == Service::ReadTake,
             OutOfRange(5) | Zero(5) => service == Service::ReadRule,
             Bits => matches!(service, Service::ReadTake | Service::ReadSheet),

@@ -46,6 +46,7 @@ type Refusals = &'static [(u8, u8)];
 const RULE: Refusals = &[(1, 1), (2, 1), (3, 1), (4, 1), (5, 1)];
 const TAKE: Refusals = &[(1, 2), (2, 2), (3, 2), (4, 2), (6, 2)];
 const SHEET: Refusals = &[(1, 3), (2, 3), (3, 3), (4, 3)];
+const CIRCUIT: Refusals = &[(1, 1), (2, 1)];
 const CALL: Refusals = &[(2, 0), (4, 0), (7, 0), (8, 0), (9, 0), (10, 0), (11, 0)];
 
 /// The answers that a service can give: words, and refusals of files and calls.
@@ -67,6 +68,8 @@ fn possible(service: Service) -> Vec<Kind> {
         Service::RunBegin => (&["written"], &[RULE], &[10]),
         Service::RunCycle => (&["accepted"], &[], &[2, 4, 7, 11]),
         Service::RunVerdict => (&["kept", "broken", "open", "no cycle yet"], &[], &[4]),
+        Service::Circuit => (&["written"], &[RULE], &[10]),
+        Service::Simulate => (&["written"], &[CIRCUIT], &[2, 7, 9, 10]),
     };
     let said = words.iter().map(|word| Kind::Said(word.to_string()));
     let of_files = files.concat().into_iter().map(|(number, file)| Kind::Refused(number, file));

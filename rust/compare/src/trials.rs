@@ -1,6 +1,7 @@
 //! Random calls of every service.
 
 use crate::call::{Answer, Call, Service};
+use crate::circuits::random_circuit;
 use crate::damage::damaged;
 use crate::files::{random_rule, random_sheet, random_take, Size};
 use crate::implementations::by_second;
@@ -23,7 +24,8 @@ pub fn random_calls(seed: u64, runs: u64, make: Make) -> Result<(), String> {
     (0..runs).try_for_each(|run| trial(&mut Random::new(seed.wrapping_mul(1 << 32).wrapping_add(run)), make))
 }
 
-/// One run: random files, calls of every service on them and on damaged copies, steps, and now and then a run of the rule.
+/// One run: random files, calls of every service on them and on damaged copies, steps, and now and then a run of the rule, or a circuit
+/// that is no rule's.
 fn trial(random: &mut Random, make: Make) -> Result<(), String> {
     let size = random_size(random);
     let files = random_files(random, size);
@@ -41,6 +43,9 @@ fn trial(random: &mut Random, make: Make) -> Result<(), String> {
     steps(random, &files.rule, size.signals, make)?;
     if random.once_in(4) {
         random_run(random, &files.rule, make)?;
+    }
+    if random.once_in(4) {
+        random_circuit(random, make)?;
     }
     Ok(())
 }
@@ -84,7 +89,7 @@ fn damaged_files(random: &mut Random, files: &Files) -> Files {
     Files { rule: perhaps(0, &files.rule), take: perhaps(1, &files.take), sheet: perhaps(2, &files.sheet) }
 }
 
-/// Every service but step and those of runs, on three files.
+/// Every service but step, those of runs and the simulation of circuits, on three files.
 fn on_files(random: &mut Random, files: &Files, make: Make) -> Result<(), String> {
     let Files { rule, take, sheet } = files;
     for service in [Service::ReadRule, Service::Bound, Service::Rows] {
@@ -101,6 +106,7 @@ fn on_files(random: &mut Random, files: &Files, make: Make) -> Result<(), String
         make(&service.of(&[rule, take]))?;
     }
     with_outputs(random, Service::JudgeText.of(&[rule, take]), make)?;
+    with_outputs(random, Service::Circuit.of(&[rule]), make)?;
     make(&Service::SheetLength.of(&[rule, take]))?;
     with_outputs(random, Service::MakeSheet.of(&[rule, take]), make)?;
     make(&Service::CheckSheet.of(&[rule, take, sheet]))
@@ -110,6 +116,7 @@ fn on_files(random: &mut Random, files: &Files, make: Make) -> Result<(), String
 /// shorter one.
 pub fn with_outputs(random: &mut Random, call: Call, make: Make) -> Result<(), String> {
     let lengths = match written(&call).map(|output| output.len()) {
+        Some(0) => vec![0, random.between(1, 40)],
         Some(length) => vec![length, length - 1, length + random.between(1, 40), random.below(length)],
         None => vec![random.below(100)],
     };
@@ -119,10 +126,11 @@ pub fn with_outputs(random: &mut Random, call: Call, make: Make) -> Result<(), S
     Ok(())
 }
 
-/// A few cycles of the monitors from a fresh start, each with some wrong calls beside it.
+/// A few cycles of the monitors from a fresh start, as steps and by their circuit, each with some wrong calls beside it.
 fn steps(random: &mut Random, rule: &[u8], signals: usize, make: Make) -> Result<(), String> {
     let rows = rows(rule);
     let ones = random.between(0, 8);
+    let circuit = written(&Service::Circuit.of(&[rule])).expect("the rule is valid");
     let mut pendings = "0".repeat(rows).into_bytes();
     for _ in 0..4 {
         let activators = random.digits(rows, ones).into_bytes();
@@ -130,6 +138,8 @@ fn steps(random: &mut Random, rule: &[u8], signals: usize, make: Make) -> Result
         let call = Service::Step.of(&[rule, &pendings, &activators, &signals]);
         with_outputs(random, call.clone(), make)?;
         make(&wrong_step(random, &call))?;
+        let inputs = [signals, activators].concat();
+        with_outputs(random, Service::Simulate.of(&[&circuit, &inputs, &pendings]), make)?;
         let given = written(&call).expect("a step with the right lengths is answered");
         pendings = given[2 * rows..].to_vec();
     }
@@ -172,7 +182,7 @@ fn with_digits_changed(random: &mut Random, sheet: &[u8]) -> Vec<u8> {
     lines.concat()
 }
 
-/// What the second implementation writes for a call, given room.
+/// What the second implementation writes for a call, given room: no service writes more than a sheet can have.
 pub fn written(call: &Call) -> Option<Vec<u8>> {
     let outcome = by_second(&Call { output: vec![0; citronhelm::MOST_SHEET], ..call.clone() });
     match outcome.answer {
