@@ -1,7 +1,7 @@
 #!/usr/bin/env bash
 # Fuzzes the library against the second implementation.
 #     fuzz/run.sh                    every target for 60 seconds
-#     fuzz/run.sh TARGET [SECONDS]   one of: rule take sheet judge check step run
+#     fuzz/run.sh TARGET [SECONDS]   one of: rule take sheet judge check step run circuit
 #     fuzz/run.sh build              only builds: target/fuzz/bin/TARGET FILE... then runs the files given
 #     fuzz/run.sh corpus             writes fuzz/corpus anew: of all inputs found, a few small ones that reach every edge reached
 #     fuzz/run.sh edges              says how many of the library's edges the corpus and the seeds reach
@@ -9,7 +9,7 @@
 # What a run finds new is kept in target/fuzz/found, what it ends on in fuzz/findings. README.md says what is needed.
 set -euo pipefail
 cd "$(dirname "$0")/.."
-targets='rule take sheet judge check step run'
+targets='rule take sheet judge check step run circuit'
 made=$PWD/target/fuzz
 kit=${RATTLE_HOME:-$(dirname "$(dirname "$(readlink -f "$(command -v rt)")")")}
 own=on/$(uname -m)
@@ -142,6 +142,6 @@ corpus) corpus ;;
 edges) edges ;;
 wrong) wrong ;;
 all) for target in $targets; do echo "== $target" && fuzz "$target" 60; done ;;
-rule | take | sheet | judge | check | step | run) fuzz "$1" "${2:-60}" ;;
+rule | take | sheet | judge | check | step | run | circuit) fuzz "$1" "${2:-60}" ;;
 *) sed -n '2,9s/^# \?//p' "$0" >&2 && exit 2 ;;
 esac

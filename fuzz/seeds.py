@@ -17,6 +17,8 @@ CASES = ROOT / "crates/try_services"
 DATA = CASES / "data"
 LONGEST = 1024
 ROWS = ["not 1", "and 1 2", "or 1 2", "next 1", "always 1", "ever 1", "weak 1 2", "until 1 2", "release 2 1", "srelease 2 1"]
+# a toggle flip-flop with enable and reset, its gates from the last to the first
+FALLING = b"aag 7 2 1 2 4\n2\n4\n6 14\n6\n7\n14 4 12\n12 9 11\n10 3 7\n8 2 6\n"
 
 
 def join(*files):
@@ -127,6 +129,38 @@ def runs(rule, rules):
     yield from ([rule, calls, changes((1220 + length, 0))] for length in (0, 1, 1216, 1219, 1221, 1500))
 
 
+def literals(circuit):
+    """A small circuit with each number from 0 to two more than the highest literal in the place of each of its numbers, and with lines left
+    out, twice and exchanged: so each fault of a line is there."""
+    places = list(re.finditer(rb"\d+", circuit))
+    highest = 2 * int(places[0][0]) + 1
+    for place in places:
+        for number in range(highest + 3):
+            yield circuit[:place.start()] + b"%d" % number + circuit[place.end():]
+    lines = circuit.splitlines(keepends=True)
+    for place in range(len(lines)):
+        yield b"".join(lines[:place] + lines[place + 1:])
+        yield b"".join(lines[:place + 1] + lines[place:])
+        yield b"".join(lines[:place] + lines[place + 1:place + 2] + lines[place:place + 1] + lines[place + 2:])
+
+
+def with_digits(circuit, digits):
+    """The circuit with as many digits as it asks for; the latches begin with the last of them."""
+    counts = re.match(rb"aag \d+ (\d{1,4}) (\d{1,4}) ", circuit)
+    inputs, latches = (int(count) for count in counts.groups()) if counts else (2, 1)
+    return [(digits * inputs)[:inputs], (digits[::-1] * latches)[:latches], circuit]
+
+
+def circuits(files, small_ones):
+    """Circuits with digits; the small ones with others, with another byte, and with one too few or too many."""
+    yield from (with_digits(circuit, b"10") for circuit in files)
+    for circuit in small_ones:
+        yield from (with_digits(circuit, digits) for digits in (b"01", b"0", b"1"))
+        inputs, latches, _ = with_digits(circuit, b"1")
+        yield from ([other, latches, circuit] for other in (inputs + b"2", b"/" + inputs, inputs + b"1", inputs[1:]))
+        yield from ([inputs, other, circuit] for other in (latches + b"2", b"/" + latches, latches + b"1", latches[1:]))
+
+
 def seeds():
     rules, takes, sheets = of_kind("rule"), of_kind("take"), of_kind("sheet")
     rule, take, sheet = [(DATA / name).read_bytes() for name in ("rule-a", "take-a", "sheet-a")]
@@ -144,6 +178,10 @@ def seeds():
     rules += [padded(rule)]
     yield "step", [join(other, b"00000", b"11111", b"10") for other in rules]
     yield "run", [join(*run) for run in runs(rule, rules)]
+    small_ones = [(DATA / f"circuit-{name}").read_bytes() for name in ("or", "toggle", "later-gate-first", "inputs-above-gates")]
+    changed = [file for circuit in small_ones for file in (*literals(circuit), *zeros(circuit))]
+    files = [*of_kind("circuit"), *(file for [file] in examples("expected-circuit.txt")), *changed]
+    yield "circuit", [join(*parts) for parts in circuits([*files, FALLING], [*small_ones, FALLING])]
 
 
 def main():

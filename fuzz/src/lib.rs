@@ -11,6 +11,7 @@ mod random;
 mod runs;
 mod tally;
 mod target;
+mod wires;
 
 use std::slice::{from_raw_parts, from_raw_parts_mut};
 use target::Target;

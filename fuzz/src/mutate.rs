@@ -3,7 +3,7 @@
 
 use crate::random::Random;
 use crate::target::Target;
-use crate::{mend, parts};
+use crate::{mend, parts, wires};
 
 /// Another input. `by_bytes` mutates one file.
 pub fn mutated(target: Target, input: &[u8], seed: u32, by_bytes: &mut dyn FnMut(&mut Vec<u8>)) -> Vec<u8> {
@@ -65,6 +65,12 @@ fn mend_all(target: Target, files: &mut [Vec<u8>]) {
         [take] if target == Target::Take => *take = mend::take(take, mend::count(take, 1, 32)).0,
         [sheet] if target == Target::Sheet => {
             *sheet = mend::sheet(sheet, mend::count(sheet, 1, 128), mend::count(sheet, 2, 256));
+        }
+        [inputs, latches, circuit] if target == Target::Circuit => {
+            let counts;
+            (*circuit, counts) = wires::mended(circuit);
+            *inputs = mend::digits(inputs, counts[0]).into_bytes();
+            *latches = mend::digits(latches, counts[1]).into_bytes();
         }
         [rule, others @ ..] => {
             let signals;

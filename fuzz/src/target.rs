@@ -11,10 +11,11 @@ const MOST_NORMAL: usize = 2845;
 const MOST_STEP: usize = 384;
 const MOST_TEXT: usize = 64;
 const MOST_SHEET: usize = 33_567;
+const CIRCUIT: usize = 9789;
 
 #[derive(Clone, Copy, Debug, PartialEq, Eq)]
 pub enum Target {
-    /// A rule file: reading, bound, rows, normal forms and their lengths.
+    /// A rule file: reading, bound, rows, normal forms and their lengths, the circuit.
     Rule,
     /// A take file: reading.
     Take,
@@ -28,6 +29,8 @@ pub enum Target {
     Step,
     /// Rule, calls and changes: a run.
     Run,
+    /// Inputs, latches and a circuit file: one cycle of it.
+    Circuit,
 }
 
 use Target::*;
@@ -47,6 +50,7 @@ impl Target {
                 Some("check") => Check,
                 Some("step") => Step,
                 Some("run") => Run,
+                Some("circuit") => Circuit,
                 _ => panic!("{program} is not named after a target"),
             }
         })
@@ -57,7 +61,7 @@ impl Target {
         match self {
             Rule | Take | Sheet => 1,
             Judge => 2,
-            Check | Run => 3,
+            Check | Run | Circuit => 3,
             Step => 4,
         }
     }
@@ -74,6 +78,13 @@ impl Target {
             }
             [rule, take] => on_pair(rule, take),
             [rule, calls, changes] if self == Run => on_run(rule, calls, changes),
+            [inputs, latches, circuit] if self == Circuit => alike_writing(
+                "simulate",
+                circuit.len(), // an output takes two bytes at least, a latch four
+                None,
+                |output| library::simulate(circuit, inputs, latches, output),
+                |output| coded(second::simulate(circuit, inputs, latches, output)),
+            ),
             [rule, take, sheet] => alike(
                 "check_sheet",
                 library::check_sheet(rule, take, sheet),
@@ -109,6 +120,13 @@ fn on_rule(rule: &[u8]) {
             |output| coded(second::normal(rule, negated, output)),
         );
     }
+    alike_writing(
+        "circuit",
+        CIRCUIT,
+        None,
+        |output| library::circuit(rule, output),
+        |output| coded(second::circuit(rule, output)),
+    );
 }
 
 fn on_pair(rule: &[u8], take: &[u8]) {
