@@ -47,7 +47,7 @@ static const struct {
     FUNCTION(rows, 1, 0),         FUNCTION(normal, 1, 1),       FUNCTION(normal_length, 1, 0), FUNCTION(judge, 2, 0),
     FUNCTION(judge_looped, 2, 0), FUNCTION(judge_open, 2, 0),   FUNCTION(judge_text, 2, 1),    FUNCTION(step, 4, 1),
     FUNCTION(make_sheet, 2, 1),   FUNCTION(sheet_length, 2, 0), FUNCTION(check_sheet, 3, 0),   FUNCTION(run_begin, 1, 1),
-    FUNCTION(run_cycle, 2, 0),    FUNCTION(run_verdict, 1, 0),
+    FUNCTION(run_cycle, 2, 0),    FUNCTION(run_verdict, 1, 0),  FUNCTION(circuit, 1, 1),       FUNCTION(simulate, 3, 1),
 };
 
 static uint8_t stack[STACK_BYTES] __attribute__((aligned(4096)));

@@ -99,10 +99,12 @@ def promised():
 
 
 def full_size(folder):
-    """The rule, the looped take, the open one, the sheet and the runs of full size, the last of which has all cycles."""
+    """The rule, the looped take, the open one, the sheet, the circuit with its inputs and latches, and the runs of full size, the last of
+    which has all cycles."""
     subprocess.run([os.path.join(ROOT, 'target/bench/release/speed'), 'write', folder], check=True)
     files = []
-    for name in ('rule.txt', 'take.txt', 'open.txt', 'sheet.txt', 'run-0', 'run-128', 'run-255', 'run-256'):
+    for name in ('rule.txt', 'take.txt', 'open.txt', 'sheet.txt', 'circuit.aag', 'inputs', 'latches', 'run-0', 'run-128', 'run-255',
+                 'run-256'):
         with open(os.path.join(folder, name), 'rb') as file:
             files.append(file.read())
     return files
@@ -147,7 +149,7 @@ def turned(sheet, line, place):
 
 def calls(folder):
     """Each function with its inputs and output lengths to try."""
-    rule, looped, opened, sheet, *runs = full_size(folder)
+    rule, looped, opened, sheet, circuit, inputs, latches, *runs = full_size(folder)
     other = rule.replace(b'signals=32', b'signals=31').replace(b'sig 32', b'sig 31')
     rules = [*damaged(rule), with_row(rule, b'true'), with_row(rule, b'false'), b'format=1\nsignals=32\nrows=1\nr1=true\n', other]
     takes = [*damaged(looped), *damaged(opened)]
@@ -158,6 +160,7 @@ def calls(folder):
         for name in ('read_rule', 'bound', 'rows', 'normal_length'):
             yield name, [one], [0]
         yield 'normal', [one], [0, 2845]
+        yield 'circuit', [one], [0, 9789]
         yield 'run_begin', [one], [0, 1219, 1220, 2000]
         rows = b'0' * 125
         for pendings, activators, signals in ((rows, rows, b'0' * 32), (b'1' * 125, b'1' * 125, b'1' * 32), (rows, b'1' * 125, b'0' * 32),
@@ -177,6 +180,12 @@ def calls(folder):
     for one in rules:
         for two in (looped, opened, b''):
             yield 'check_sheet', [one, two, sheet], [0]
+    chain = b''.join(b'%d %d 1\n' % (2 * k, 2 * k - 1) for k in range(5471, 1, -1))
+    longest = [b'aag 5471 1 0 1 5470\n2\n10942\n' + chain, b'aag 0 0 0 32759 0\n' + b'1\n' * 32759]
+    for one in [*damaged(circuit), *longest]:
+        for digits in ((inputs, latches), (inputs[1:], latches), (inputs, latches[1:]), (b'2' + inputs[1:], latches), (b'1', b''),
+                       (b'', b'')):
+            yield 'simulate', [one, *digits], [0, 500, 33000]
     for run in runs:
         for one in changed(run):
             yield 'run_verdict', [one], [0]

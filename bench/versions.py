@@ -36,6 +36,8 @@ CALLS = [  # function, inputs, bytes lent
     ('sheet_length', ['rule.txt', 'take.txt'], 0),
     ('check_sheet', ['rule.txt', 'take.txt', 'sheet.txt'], 0),
     ('run_begin', ['rule.txt'], 1220),
+    ('circuit', ['rule.txt'], 9789),
+    ('simulate', ['circuit.aag', 'inputs', 'latches'], 500),
 ]
 
 
@@ -110,7 +112,7 @@ def main():
         program = built(other, calls, folder)
         for function, inputs, lent in calls:
             cells = measured(program, folder, function, inputs, lent)
-            print('|', ' | '.join([f'`{function}`, {", ".join(name.removesuffix(".txt") for name in inputs)}', *cells]), '|', flush=True)
+            print('|', ' | '.join([f'`{function}`, {", ".join(os.path.splitext(name)[0] for name in inputs)}', *cells]), '|', flush=True)
 
 
 main()

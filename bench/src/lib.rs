@@ -2,6 +2,7 @@
 //! byte for each truth value, texts put together by formatting. Measured beside the library by the program `speed`.
 
 pub mod checking;
+pub mod circuits;
 pub mod judging;
 pub mod making;
 pub mod monitors;

@@ -9,7 +9,7 @@ pub struct Fault {
 }
 
 impl Fault {
-    /// The same as a refusal: file 1 is the rule, 2 the take, 3 the sheet.
+    /// The same as a refusal: file 1 is the rule or the circuit, 2 the take, 3 the sheet.
     pub fn of(self, file: u32) -> Refusal {
         Refusal { reason: self.reason, file, line: self.line }
     }
@@ -44,7 +44,7 @@ pub fn number_length(n: usize) -> usize {
     n.checked_ilog10().unwrap_or(0) as usize + 1
 }
 
-/// A number in a key: it has no leading zeros.
+/// A number in a key or in a circuit: it has no leading zeros.
 fn key_number(text: &str) -> Option<usize> {
     if text.len() > 1 && text.starts_with('0') {
         return None;
@@ -71,12 +71,29 @@ impl<'a> Lines<'a> {
         Fault { reason, line: self.line }
     }
 
-    fn take_line(&mut self) -> Option<(&'a str, &'a str)> {
+    fn take_text(&mut self) -> Option<&'a str> {
         self.line += 1;
         let end = self.rest.iter().position(|&b| b == b'\n')?;
         let text = std::str::from_utf8(&self.rest[..end]).ok()?;
         self.rest = &self.rest[end + 1..];
-        text.split_once('=')
+        Some(text)
+    }
+
+    fn take_line(&mut self) -> Option<(&'a str, &'a str)> {
+        self.take_text()?.split_once('=')
+    }
+
+    /// The numbers of the next line of a circuit, behind this word; they have no leading zeros.
+    pub fn numbers<const N: usize>(&mut self, word: &str) -> Result<[usize; N], Fault> {
+        let mut parts = self.take_text().and_then(|text| text.strip_prefix(word)).ok_or(self.fault(2))?.split(' ');
+        let mut numbers = [0; N];
+        for n in &mut numbers {
+            *n = parts.next().and_then(key_number).ok_or(self.fault(2))?;
+        }
+        match parts.next() {
+            None => Ok(numbers),
+            Some(_) => Err(self.fault(2)),
+        }
     }
 
     /// The value of the next line, which must have this key.

@@ -1,7 +1,7 @@
 // The plain-Rust version held to the second implementation and to the library, on the calls by which these are held together
-// (`../rust/compare`): the papers' cases, all small rules and takes, random ones, valid and damaged, and runs.
+// (`../rust/compare`): the papers' cases, all small rules and takes, random ones, valid and damaged, runs, and circuits.
 use compare::{all_small, by_proved, by_second, papers_cases, random_calls, same, Answer, Call, Outcome, Service, Tally};
-use plain::{checking, judging, making, monitors, normal, reading, rule, run, sheets, take};
+use plain::{checking, circuits, judging, making, monitors, normal, reading, rule, run, sheets, take};
 
 fn refused(reading::Refusal { reason, file, line }: reading::Refusal) -> Answer {
     Answer::Refused(reason as u8, file as u8, line as u32)
@@ -63,6 +63,8 @@ fn by_plain(call: &Call) -> Outcome {
         Service::RunBegin => run::run_begin(input(0), &mut output).map(Answer::Number),
         Service::RunCycle => run::run_cycle(&mut output, input(0)).map(|()| Answer::Accepted),
         Service::RunVerdict => run::run_verdict(input(0)).map(verdict),
+        Service::Circuit => circuits::circuit_file(input(0)).map(|bytes| put(&bytes, &mut output)),
+        Service::Simulate => circuits::simulate(input(0), input(1), input(2), &mut output).map(Answer::Number),
     };
     Outcome { answer: answer.unwrap_or_else(refused), inputs, output }
 }

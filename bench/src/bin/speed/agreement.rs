@@ -7,7 +7,9 @@ use crate::services::{Call, Implementation, Service};
 fn outcome(by: Implementation, call: Call, given: &Inputs) -> (u64, Vec<u8>) {
     let mut out = vec![0; citronhelm::MOST_SHEET];
     let answer = by.call(call, given, &mut out);
-    let writes = matches!(call.service, Service::Normal | Service::Step | Service::MakeSheet | Service::RunBegin) && answer >> 63 == 0;
+    let makes = matches!(call.service, Service::Normal | Service::Step | Service::MakeSheet | Service::RunBegin);
+    let of_circuits = matches!(call.service, Service::Circuit | Service::CircuitOfA | Service::Simulate | Service::SimulateOfA);
+    let writes = (makes || of_circuits) && answer >> 63 == 0;
     let length = given.run(call.service).map_or(0, <[u8]>::len);
     out.truncate(if writes { answer as usize } else { length });
     (answer, out)
@@ -68,6 +70,9 @@ fn with_damage(size: Size) -> Vec<Inputs> {
     put(damaged(&given.pendings, 5), |inputs| &mut inputs.pendings);
     put(damaged(&given.activators, 5), |inputs| &mut inputs.activators);
     put(damaged(&given.signals, 5), |inputs| &mut inputs.signals);
+    put(damaged(&given.circuit, 61), |inputs| &mut inputs.circuit);
+    put(damaged(&given.inputs, 5), |inputs| &mut inputs.inputs);
+    put(damaged(&given.circuit_of_a, 5), |inputs| &mut inputs.circuit_of_a);
     put(changed(&given.runs[1]), |inputs| &mut inputs.runs[1]);
     put(changed(&given.whole_run), |inputs| &mut inputs.whole_run);
     all

@@ -4,14 +4,18 @@
 //! reached under both signs, so that 64 rows give the 125 of the largest normal form. The loop begins in the middle. Nothing ends
 //! early: the last rows ask for something again and again, which the loop brings and no open take settles, so that there both
 //! normal forms are gone through; and 70 of the 125 rows are true at one cycle of the looped take and false at another.
-use crate::services::Service;
-use plain::{checking, making, monitors, rule, run};
+use crate::services::{Call, Service};
+use plain::{checking, circuits, making, monitors, rule, run};
 
 const SIGNALS: usize = 32;
 const WORDS: [&str; 9] = ["and", "next", "release", "or", "weak", "ever", "srelease", "always", "until"];
 const UNARY: [&str; 3] = ["next", "ever", "always"];
 /// The step that is measured: the monitors have run along the take up to it.
 const STEP: usize = 20;
+
+/// 01's rule A, and a cycle of its circuit: signals, then activators.
+pub const RULE_A: &[u8] = b"format=1\nsignals=2\nrows=6\nr1=sig 1\nr2=not 1\nr3=sig 2\nr4=ever 3\nr5=or 2 4\nr6=always 5\n";
+const CYCLE_OF_A: &[u8] = b"1000111";
 
 /// How many rows the rule has and how many cycles the take.
 #[derive(Clone, Copy, Debug, PartialEq)]
@@ -22,7 +26,7 @@ pub struct Size {
 
 /// What the services are given. `other` is the rule with 31 signals: it is read to its end, and then refused beside a take with 32.
 /// `runs` are the states before the first cycle, the middle one and the last, `whole_run` that after all. The padded files are the rule,
-/// the looped take and the sheet.
+/// the looped take and the sheet. The circuit is that of the rule's monitors, its inputs and latches those of the step.
 #[derive(Clone)]
 pub struct Inputs {
     pub rule: Vec<u8>,
@@ -38,6 +42,9 @@ pub struct Inputs {
     pub signals: Vec<u8>,
     pub runs: [Vec<u8>; 3],
     pub whole_run: Vec<u8>,
+    pub circuit: Vec<u8>,
+    pub inputs: Vec<u8>,
+    pub circuit_of_a: Vec<u8>,
 }
 
 impl Inputs {
@@ -54,7 +61,35 @@ impl Inputs {
         let runs = [0, size.cycles / 2, size.cycles - 1].map(|before| run_after(&rule, &cycles[..before]));
         let (whole_run, signals) = (run_after(&rule, &cycles), cycles[STEP].clone().into_bytes());
         let [padded_rule, padded_take, padded_sheet] = [&rule, &looped, &sheet].map(|file| padded(file));
-        Inputs { rule, other, looped, open, sheet, padded_rule, padded_take, padded_sheet, pendings, activators, signals, runs, whole_run }
+        let (circuit, circuit_of_a) = (circuits::circuit_file(&rule).unwrap(), circuits::circuit_file(RULE_A).unwrap());
+        let inputs = [&signals[..], &activators].concat();
+        Inputs {
+            rule,
+            other,
+            looped,
+            open,
+            sheet,
+            padded_rule,
+            padded_take,
+            padded_sheet,
+            pendings,
+            activators,
+            signals,
+            runs,
+            whole_run,
+            circuit,
+            inputs,
+            circuit_of_a,
+        }
+    }
+
+    /// The circuit that is simulated, its inputs, of which one is missing where it is only read, and its latches.
+    pub fn cycle(&self, call: Call) -> [&[u8]; 3] {
+        let [circuit, inputs, latches] = match call.service {
+            Service::SimulateOfA => [&self.circuit_of_a, CYCLE_OF_A, b"00000"],
+            _ => [&self.circuit[..], &self.inputs, &self.pendings],
+        };
+        [circuit, if call.only_read { &inputs[1..] } else { inputs }, latches]
     }
 
     /// The run that a service hands a cycle to.

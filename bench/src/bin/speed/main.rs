@@ -4,7 +4,7 @@
 //!
 //!     speed               times, at full size and at smaller ones
 //!     speed count         instructions at full size, by callgrind
-//!     speed write FOLDER  writes the rule, the takes, the sheet, these padded, and the runs of full size into a folder
+//!     speed write FOLDER  writes the rule, the takes, the sheet, these padded, the runs and the circuit of full size into a folder
 mod agreement;
 mod counting;
 mod inputs;
@@ -78,7 +78,8 @@ fn write(folder: &str) -> std::io::Result<()> {
     let padded = [("padded-rule.txt", given.padded_rule), ("padded-take.txt", given.padded_take), ("padded-sheet.txt", given.padded_sheet)];
     let [first, middle, last] = given.runs;
     let runs = [("run-0", first), ("run-128", middle), ("run-255", last), ("run-256", given.whole_run)];
-    for (name, bytes) in files.into_iter().chain(padded).chain(runs) {
+    let cycle = [("circuit.aag", given.circuit), ("inputs", given.inputs), ("latches", given.pendings)];
+    for (name, bytes) in files.into_iter().chain(padded).chain(runs).chain(cycle) {
         std::fs::write(std::path::Path::new(folder).join(name), bytes)?;
     }
     Ok(())

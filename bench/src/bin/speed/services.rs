@@ -1,6 +1,6 @@
 //! The services, and each implementation called alike: the answer as one number, as the library gives it in C.
-use crate::inputs::Inputs;
-use plain::{checking, judging, making, monitors, normal, reading, rule, run, sheets, take};
+use crate::inputs::{Inputs, RULE_A};
+use plain::{checking, circuits, judging, making, monitors, normal, reading, rule, run, sheets, take};
 
 #[derive(Clone, Copy, Debug, PartialEq)]
 pub enum Service {
@@ -23,11 +23,15 @@ pub enum Service {
     MiddleCycle,
     LastCycle,
     RunVerdict,
+    Circuit,
+    Simulate,
+    CircuitOfA,
+    SimulateOfA,
 }
 use Service::*;
 
 impl Service {
-    pub const ALL: [Service; 19] = [
+    pub const ALL: [Service; 23] = [
         ReadRule,
         ReadTake,
         ReadSheet,
@@ -47,6 +51,10 @@ impl Service {
         MiddleCycle,
         LastCycle,
         RunVerdict,
+        Circuit,
+        Simulate,
+        CircuitOfA,
+        SimulateOfA,
     ];
 
     pub fn name(self) -> &'static str {
@@ -70,6 +78,10 @@ impl Service {
             MiddleCycle => "take a cycle, half before it",
             LastCycle => "take a cycle, the last",
             RunVerdict => "verdict of a run",
+            Circuit => "circuit of the monitors",
+            Simulate => "simulate a cycle",
+            CircuitOfA => "circuit of rule A's monitors",
+            SimulateOfA => "simulate a cycle of rule A's",
         }
     }
 
@@ -85,23 +97,27 @@ impl Service {
     /// Whether the cost may depend on the rule's rows, and on the take's cycles. A cycle's does not depend on those before it; that this is
     /// so is to be seen.
     pub fn grows_in(self) -> (bool, bool) {
-        let only_rows = matches!(self, ReadRule | ReadPaddedRule | Normal | NormalLength | Step | RunBegin | FirstCycle);
-        (!matches!(self, ReadTake | ReadPaddedTake), !only_rows)
+        let only_rows =
+            matches!(self, ReadRule | ReadPaddedRule | Normal | NormalLength | Step | RunBegin | FirstCycle | Circuit | Simulate);
+        let neither = matches!(self, CircuitOfA | SimulateOfA);
+        (!neither && !matches!(self, ReadTake | ReadPaddedTake), !neither && !only_rows)
     }
 
     /// The call that reads what this one reads and does no more.
     pub fn reading(self) -> Option<Call> {
         match self {
             ReadRule | ReadTake | ReadSheet | ReadPaddedRule | ReadPaddedTake | ReadPaddedSheet => None,
-            FirstCycle | MiddleCycle | LastCycle | RunVerdict => None,
-            Normal | NormalLength | Step | RunBegin => Some(Call { service: ReadRule, only_read: false }),
-            JudgeLooped | JudgeOpen | MakeSheet | SheetLength | CheckSheet => Some(Call { service: self, only_read: true }),
+            FirstCycle | MiddleCycle | LastCycle | RunVerdict | CircuitOfA => None,
+            Normal | NormalLength | Step | RunBegin | Circuit => Some(Call { service: ReadRule, only_read: false }),
+            JudgeLooped | JudgeOpen | MakeSheet | SheetLength | CheckSheet | Simulate | SimulateOfA => {
+                Some(Call { service: self, only_read: true })
+            }
         }
     }
 }
 
-/// A call of a service. With `only_read` rule and take differ in `signals`: all files are read to their ends, and the call is refused. A
-/// run has its rule in it.
+/// A call of a service. With `only_read` rule and take differ in `signals`, and a circuit has an input less: all files are read to their
+/// ends, and the call is refused. A run has its rule in it.
 #[derive(Clone, Copy, Debug, PartialEq)]
 pub struct Call {
     pub service: Service,
@@ -132,9 +148,9 @@ impl Implementation {
             out[..run.len()].copy_from_slice(run);
         }
         match self {
-            Implementation::Proved => proved(call.service, rule, given, out),
-            Implementation::Plain => plain(call.service, rule, given, out),
-            Implementation::Second => second(call.service, rule, given, out),
+            Implementation::Proved => proved(call, rule, given, out),
+            Implementation::Plain => plain(call, rule, given, out),
+            Implementation::Second => second(call, rule, given, out),
             Implementation::BitParallel => bit_parallel(call.service, rule, given),
         }
     }
@@ -148,7 +164,7 @@ fn found(finding: u64, row: u64, cycle: u64) -> u64 {
     cycle << 16 | row << 8 | finding
 }
 
-fn proved(service: Service, rule: &[u8], given: &Inputs, out: &mut [u8]) -> u64 {
+fn proved(call: Call, rule: &[u8], given: &Inputs, out: &mut [u8]) -> u64 {
     use citronhelm as c;
     let read = |(): ()| 0;
     let length = |length: usize| length as u64;
@@ -160,7 +176,8 @@ fn proved(service: Service, rule: &[u8], given: &Inputs, out: &mut [u8]) -> u64 
         c::Finding::Pending { row } => found(4, row.into(), 0),
         c::Finding::Passes => found(5, 0, 0),
     };
-    let answer = match service {
+    let [circuit, inputs, latches] = given.cycle(call);
+    let answer = match call.service {
         ReadRule => c::read_rule(rule).map(read),
         ReadTake => c::read_take(&given.looped).map(read),
         ReadSheet => c::read_sheet(&given.sheet).map(read),
@@ -178,12 +195,15 @@ fn proved(service: Service, rule: &[u8], given: &Inputs, out: &mut [u8]) -> u64 
         RunBegin => c::run_begin(rule, out).map(length),
         FirstCycle | MiddleCycle | LastCycle => c::run_cycle(&mut out[..given.whole_run.len()], &given.signals).map(read),
         RunVerdict => c::run_verdict(&given.whole_run).map(verdict),
+        Circuit => c::circuit(rule, out).map(length),
+        CircuitOfA => c::circuit(RULE_A, out).map(length),
+        Simulate | SimulateOfA => c::simulate(circuit, inputs, latches, out).map(length),
     };
     answer.unwrap_or_else(|r| refused(r.reason.number().into(), r.file.map_or(0, c::File::number).into(), r.line.into()))
 }
 
-/// The plain-Rust version makes its outputs, and they take the place of `out`; a step and a run it writes as the others do.
-fn plain(service: Service, rule: &[u8], given: &Inputs, out: &mut Vec<u8>) -> u64 {
+/// The plain-Rust version makes its outputs, and they take the place of `out`; a step, a cycle and a run it writes as the others do.
+fn plain(call: Call, rule: &[u8], given: &Inputs, out: &mut Vec<u8>) -> u64 {
     let of = |file: u32| move |fault: reading::Fault| fault.of(file);
     let length = |length: usize| length as u64;
     let verdict = |verdict: judging::Verdict| verdict as u64 + 1;
@@ -198,7 +218,8 @@ fn plain(service: Service, rule: &[u8], given: &Inputs, out: &mut Vec<u8>) -> u6
         *out = bytes;
         out.len() as u64
     };
-    let answer = match service {
+    let [circuit, inputs, latches] = given.cycle(call);
+    let answer = match call.service {
         ReadRule => rule::read_rule(rule).map(used).map_err(of(1)),
         ReadTake => take::read_take(&given.looped).map(used).map_err(of(2)),
         ReadSheet => sheets::read_sheet(&given.sheet).map(used).map_err(of(3)),
@@ -216,6 +237,9 @@ fn plain(service: Service, rule: &[u8], given: &Inputs, out: &mut Vec<u8>) -> u6
         RunBegin => run::run_begin(rule, out).map(length),
         FirstCycle | MiddleCycle | LastCycle => run::run_cycle(&mut out[..given.whole_run.len()], &given.signals).map(|()| 0),
         RunVerdict => run::run_verdict(&given.whole_run).map(verdict),
+        Circuit => circuits::circuit_file(rule).map(put),
+        CircuitOfA => circuits::circuit_file(RULE_A).map(put),
+        Simulate | SimulateOfA => circuits::simulate(circuit, inputs, latches, out).map(length),
     };
     answer.unwrap_or_else(|r| refused(r.reason.into(), r.file.into(), r.line as u64))
 }
@@ -226,7 +250,7 @@ fn used<T>(table: T) -> u64 {
     0
 }
 
-fn second(service: Service, rule: &[u8], given: &Inputs, out: &mut [u8]) -> u64 {
+fn second(call: Call, rule: &[u8], given: &Inputs, out: &mut [u8]) -> u64 {
     let read = |(): ()| 0;
     let length = |length: usize| length as u64;
     let finding = |finding| match finding {
@@ -236,7 +260,8 @@ fn second(service: Service, rule: &[u8], given: &Inputs, out: &mut [u8]) -> u64 
         second::Finding::Pending { row } => found(4, row as u64, 0),
         second::Finding::Passes => found(5, 0, 0),
     };
-    let answer = match service {
+    let [circuit, inputs, latches] = given.cycle(call);
+    let answer = match call.service {
         ReadRule => second::read_rule(rule).map(read),
         ReadTake => second::read_take(&given.looped).map(read),
         ReadSheet => second::read_sheet(&given.sheet).map(read),
@@ -254,6 +279,9 @@ fn second(service: Service, rule: &[u8], given: &Inputs, out: &mut [u8]) -> u64 
         RunBegin => second::run_begin(rule, out).map(length),
         FirstCycle | MiddleCycle | LastCycle => second::run_cycle(&mut out[..given.whole_run.len()], &given.signals).map(read),
         RunVerdict => second::run_verdict(&given.whole_run).map(by_number),
+        Circuit => second::circuit(rule, out).map(length),
+        CircuitOfA => second::circuit(RULE_A, out).map(length),
+        Simulate | SimulateOfA => second::simulate(circuit, inputs, latches, out).map(length),
     };
     answer.unwrap_or_else(turned_back)
 }
