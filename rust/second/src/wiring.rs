@@ -220,7 +220,7 @@ mod tests {
 
     /// The largest normal form: every row but the last is reached with both signs.
     #[test]
-    fn the_longest_circuit() {
+    fn the_largest_normal_form_fits() {
         let mut rows = vec!["sig 32".to_string()];
         rows.extend((1..62).map(|before| format!("weak {before} {before}")));
         rows.extend(["not 62".to_string(), "until 62 63".to_string()]);
