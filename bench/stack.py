@@ -12,8 +12,8 @@ Measured: each function on a painted stack (stack.c), on files of full size and 
 that a call took.
 
 The bound is read off the machine code and is one for all inputs: the frames along the deepest path of calls. It can be read off since no
-function calls itself, none is called by pointer, and each moves its stack pointer by constants in its prologue and nowhere else; where
-that is not so, this script fails. For memcpy and memset it takes SYSTEM bytes."""
+function calls itself, none is called by pointer, and each moves its stack pointer by constants in its prologue and nowhere else, but for
+registers that are saved further on, which all count; where that is not so, this script fails. For memcpy and memset it takes SYSTEM bytes."""
 import collections
 import functools
 import os
@@ -71,10 +71,12 @@ def frame(name, instructions):
         elif instruction == 'add' and operands.endswith(',%rsp'):
             assert operands == f'$0x{size - saved:x},%rsp', (name, operands)
         else:
-            assert instruction not in ('push', 'enter', 'leave') and not operands.endswith(',%rsp'), (name, instruction, operands)
+            assert instruction not in ('enter', 'leave') and not operands.endswith(',%rsp'), (name, instruction, operands)
         if place := re.search(r'-0x([0-9a-f]+)\(%rsp', operands):
             below = max(below, int(place[1], 16))
             touched = max(touched, below if instruction != 'lea' else 0)
+    # registers may also be saved further on, where only one way through the function needs them: each counts, as if all were saved at once
+    size += 8 * sum(instruction == 'push' for instruction, _ in rest)
     # a function that calls none may use 128 bytes below its stack pointer; in others only addresses are computed from there
     assert below <= 128 and not (touched and calls), (name, below, calls)
     return size + (0 if calls else below), calls

@@ -47,16 +47,15 @@ extern "C" {
 #endif
 
 /* How long an output has to be at most. */
-#define CITRONHELM_MOST_TEXT 64u     /* citronhelm_judge_text */
-#define CITRONHELM_MOST_NORMAL 2845u /* citronhelm_normal */
-#define CITRONHELM_MOST_STEP 384u    /* citronhelm_step */
-#define CITRONHELM_MOST_SHEET 33567u /* citronhelm_make_sheet */
+#define CITRONHELM_MOST_TEXT 64u        /* citronhelm_judge_text */
+#define CITRONHELM_MOST_NORMAL 2845u    /* citronhelm_normal */
+#define CITRONHELM_MOST_STEP 384u       /* citronhelm_step */
+#define CITRONHELM_MOST_SHEET 33567u    /* citronhelm_make_sheet */
+#define CITRONHELM_MOST_CIRCUIT 9789u   /* citronhelm_circuit */
+#define CITRONHELM_MOST_SIMULATE 32768u /* citronhelm_simulate, on any circuit */
 
 /* How many bytes a run has. */
 #define CITRONHELM_RUN 1220u
-
-/* Bytes always enough for a circuit file: citronhelm_circuit. */
-#define CITRONHELM_CIRCUIT 9789u
 
 /*
  * How much stack a call needs at most, in bytes below the call: measured and rounded up; the machine code takes no more on any input
@@ -81,8 +80,8 @@ extern "C" {
 #define CITRONHELM_STACK_RUN_BEGIN 5120u
 #define CITRONHELM_STACK_RUN_CYCLE 10240u
 #define CITRONHELM_STACK_RUN_VERDICT 17408u
-#define CITRONHELM_STACK_CIRCUIT 0u  /* TODO-STACK */
-#define CITRONHELM_STACK_SIMULATE 0u /* TODO-STACK */
+#define CITRONHELM_STACK_CIRCUIT 16384u
+#define CITRONHELM_STACK_SIMULATE 313344u
 
 /* Whether an answer is a refusal; its number, file and line. */
 static inline int citronhelm_refused(uint64_t answer) { return (int)(answer >> 63); }
@@ -234,7 +233,7 @@ uint64_t citronhelm_run_verdict(const uint8_t *run, size_t run_length);
 /*
  * Writes a rule's monitors as a circuit, an ASCII AIGER file (docs/CIRCUIT.md says which gates and literals it has). Its inputs are the
  * signals, then each normal-form row's activator; there is one latch for each row, its pending one cycle earlier; its outputs are failed,
- * then accept, then pending, each by row. Answers its length; at most CITRONHELM_CIRCUIT bytes. Refusals behind the rule's own: 10.
+ * then accept, then pending, each by row. Answers its length; at most CITRONHELM_MOST_CIRCUIT bytes. Refusals behind the rule's own: 10.
  *
  * Simulated from latches at '0', the file gives in each cycle the digits that citronhelm_step gives from a fresh start.
  */
@@ -242,8 +241,8 @@ uint64_t citronhelm_circuit(const uint8_t *rule, size_t rule_length, uint8_t *ou
 
 /*
  * One cycle of the circuit in an ASCII AIGER file. Inputs and latches are digits, the bytes '0' and '1', in the order of the file. Writes
- * the digits of the outputs, then of the next latches, and answers their number, which is that of outputs and latches together: fewer than
- * 32,768 in any file.
+ * the digits of the outputs, then of the next latches, and answers their number, which is that of outputs and latches together, at most
+ * CITRONHELM_MOST_SIMULATE.
  *
  * The file has no symbols and no comments, numbers of at most five digits without leading zeros, a maximum index that is the number of
  * inputs, latches and gates together, and gates whose operands have lower literals; in whatever order its literals and its gates are.

@@ -29,7 +29,7 @@ static size_t read_file(const char *name, uint8_t *bytes)
 
 int main(int count, char **words)
 {
-    static uint8_t rule[MOST_BYTES], circuit[CITRONHELM_CIRCUIT];
+    static uint8_t rule[MOST_BYTES], circuit[CITRONHELM_MOST_CIRCUIT];
     if (count != 2) {
         fprintf(stderr, "usage: %s RULE\n", words[0]);
         return 2;

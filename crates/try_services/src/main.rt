@@ -4,6 +4,7 @@
 mod all_sheets;
 mod case;
 mod changes;
+mod circuits;
 mod lengths;
 mod reading;
 mod rules;
@@ -21,6 +22,9 @@ fn report(case: &[u8]) {
         return;
     }
     if lengths::tried(case) {
+        return;
+    }
+    if circuits::tried(case) {
         return;
     }
     if runs::tried(case) {

@@ -1,4 +1,4 @@
-// Files read alone: `read_rule FILE`, `read_take FILE`, `read_sheet FILE`, `read_circuit FILE`.
+// Files read alone: `read_rule FILE`, `read_take FILE`, `read_sheet FILE`.
 use crate::case;
 use crate::show;
 
@@ -26,14 +26,6 @@ fn read_sheet(case: &[u8]) {
     show::outcome(outcome);
 }
 
-fn read_circuit(case: &[u8]) {
-    let mut space = [0u8; 65537];
-    let n = case::load(case, 1, &mut space);
-    let answer = circuit_file::read_circuit(&space[..n]);
-    let outcome = answer.outcome;
-    show::outcome(outcome);
-}
-
 // Whether the case is one of these; if so, it is tried.
 pub fn tried(case: &[u8]) -> bool {
     if case::names(case, b"read_rule") {
@@ -46,10 +38,6 @@ pub fn tried(case: &[u8]) -> bool {
     }
     if case::names(case, b"read_sheet") {
         read_sheet(case);
-        return true;
-    }
-    if case::names(case, b"read_circuit") {
-        read_circuit(case);
         return true;
     }
     false
