@@ -8,7 +8,8 @@ ghost use Rattle.writing.specs.Lent.{Wrote};
 ghost use Rattle.circuit.specs.Valuation.{IsValuation};
 ghost use Rattle.circuit_file.specs.File.{circuitIn};
 ghost use Rattle.circuit_values.specs.Table.{OfFile, tableWith};
-ghost use Rattle.circuit_values.specs.Values.{Distinct, Evaluated, Gates, LiteralsWithin, Scattered, Spread, valueAt, valueOf, valuesAt, variableAt};
+ghost use Rattle.circuit_values.specs.Values.{Distinct, Evaluated, Gates, LiteralsWithin, Scattered, Spread};
+ghost use Rattle.circuit_values.specs.Values.{valueAt, valueOf, valuesAt, variableAt};
 use circuit_line::section::Header;
 
 // The value of a literal.

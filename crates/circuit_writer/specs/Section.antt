@@ -1,6 +1,6 @@
 -- The lines of a normal form's circuit, section by section. Assumes nothing.
 use Prim.Native.Nat.{ℕ}
-use mathlib.Core.List.{List, [], _∷_, _++_, map}
+use mathlib.Core.List.{List, [], _∷_, map}
 use Rattle.tables.specs.declared.row.NormalForm.{NormalForm}
 use Rattle.circuit.specs.Circuit.{Latch, Gate}
 use Rattle.monitor_circuit.specs.Wiring.{Wiring}

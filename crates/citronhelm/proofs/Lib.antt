@@ -3,3 +3,4 @@ pub mod OneAnswer
 pub mod Runs
 pub mod Told
 pub mod Lending
+pub mod Circuits

@@ -1,6 +1,6 @@
 -- Runs in the library: what the functions on bytes answer, and that a run's verdict has the number that judging its take file gives.
 -- Assumes nothing.
-use Prim.Native.Nat.{ℕ, _≤_}
+use Prim.Native.Nat.{ℕ}
 use mathlib.Core.Bool.{Bool}
 use mathlib.Core.List.{List, [], _∷_}
 use mathlib.Core.Path.{_≡_, refl, sym, ap, ap₂, _∙_, subst}
@@ -8,7 +8,6 @@ use native.Mathlib.Omega.{arith}
 use native.Mathlib.Decide.{ℕ-discrete}
 use lib.ListN.{drop, getD, length}
 use Rattle.tables.specs.Only.{TheOnly}
-use Rattle.tables.specs.declared.refusal.Refusal.{Refusal}
 use Rattle.tables.specs.declared.row.Formula.{Formula}
 use Rattle.tables.specs.declared.trace.Trace.{Trace}
 use Rattle.text.specs.Result.{Result}
@@ -27,7 +26,7 @@ use Rattle.run.specs.Calls.{Call, Called, acceptedCycles}
 use Rattle.run.specs.Cycles.{Led}
 use Rattle.run.specs.Run.{LedTo, runOf}
 use Rattle.run.specs.Verdict.{VerdictSoFar, outOfRange, takeFile}
-use Rattle.run.proofs.Calls.{led-begun, run-behind, behind-led}
+use Rattle.run.proofs.Calls.{run-behind, behind-led}
 use Rattle.run_bytes.proofs.Laws.{run-length}
 use Rattle.run_state.specs.State.{stateOf}
 use Rattle.answer_code.specs.Code.{bytesCode, judgeCode, outcomeCode, refusalCode}

@@ -1,8 +1,9 @@
 // The gates of one row's monitor, by their literals (docs/CIRCUIT.md).
 ghost use Prim.Native.Nat.{_+_, _*_, _≤_, _<_};
 ghost use mathlib.Core.Path.{_≡_};
-ghost use Rattle.monitor_circuit.specs.Wiring.{awaits as awaitsOf, binaryWiring, both as bothOf, checks as checksOf};
-ghost use Rattle.monitor_circuit.specs.Wiring.{constantWiring, idle as idleOf, signalWiring, spare as spareOf, unaryWiring, waits as waitsOf};
+ghost use Rattle.monitor_circuit.specs.Wiring.{awaits as awaitsOf, both as bothOf, checks as checksOf, idle as idleOf};
+ghost use Rattle.monitor_circuit.specs.Wiring.{spare as spareOf, waits as waitsOf};
+ghost use Rattle.monitor_circuit.specs.Wiring.{binaryWiring, constantWiring, signalWiring, unaryWiring};
 ghost use Rattle.row_wiring.specs.Own.{Small, operandsAs, ownOf, wiringAs, wiringAt};
 use tables::row::BinaryKind;
 use tables::row::ConstantKind;

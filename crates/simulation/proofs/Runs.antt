@@ -8,11 +8,7 @@ use lib.ListN.{length, take, drop, replicate, length-append, length-map}
 use lib.Seq.{take-at, drop-at}
 use borrow.Author.Tests.{le-leb}
 use Rattle.tables.specs.Choice.{pick}
-use Rattle.tables.specs.Place.{tabulate}
-use Rattle.tables.specs.declared.refusal.Outcome.{Outcome}
-use Rattle.tables.specs.declared.refusal.Outcome.the-variants.{Accepted}
-use Rattle.tables.proofs.Places.{tabulate-ext, tabulate-getD, map-tabulate, replicate-tabulate}
-use Rattle.text.specs.Result.{Result}
+use Rattle.tables.proofs.Places.{tabulate-getD, map-tabulate, replicate-tabulate}
 use Rattle.text.specs.Result.Result.{accepted}
 use Rattle.text.specs.Search.{part}
 use Rattle.text.specs.Written.{digitsText}
@@ -21,18 +17,17 @@ use Rattle.writing.specs.declared.answer.Bytes.{Bytes}
 use Rattle.writing.specs.declared.answer.Bytes.the-variants.{Count}
 use Rattle.writing.specs.Answer.{Delivers, Printed, writtenAnswer}
 use Rattle.writing.specs.Lent.{overlaid}
-use Rattle.writing.proofs.Answers.{delivered-once, delivers-is}
+use Rattle.writing.proofs.Answers.{delivers-is}
 use Rattle.writing.proofs.Room.{room-enough}
 use Rattle.circuit.specs.Circuit.{Circuit, Latch, latchAt, WellFormed}
-use Rattle.circuit.specs.Valuation.{Valuation, IsValuation, outputValues, nextLatches, latchIn, IsRun}
+use Rattle.circuit.specs.Valuation.{Valuation, outputValues, nextLatches, latchIn, IsRun}
 use Rattle.circuit.proofs.Exists.{run-exists}
 use Rattle.circuit_file.specs.File.{parseCircuit}
 use Rattle.circuit_file.proofs.Circuits.{circuit-read}
-use Rattle.simulator.specs.Simulation.{IsCycle, Cycles, CyclesOn, OnCircuit, Simulates, digitsOutcome}
-use Rattle.circuit_values.specs.Values.{valueAt}
+use Rattle.simulator.specs.Simulation.{IsCycle, CyclesOn, OnCircuit, Simulates}
 use Rattle.simulator.proofs.Once.{cycle-once}
 use Rattle.simulation.specs.FromZero.{Simulated, FromZero, digitsOf}
-use Rattle.simulation.proofs.Digits.{digits-size, digit-there, digits-taken}
+use Rattle.simulation.proofs.Digits.{digit-there, digits-taken}
 
 module _ (c : Circuit) (file : List ℕ) (read : parseCircuit file ≡ accepted c) (inputs : ℕ → ℕ → Bool) (buffers : ℕ → List ℕ) where
   abbrev ins : ℕ

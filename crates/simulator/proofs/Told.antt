@@ -12,7 +12,7 @@ use Rattle.text.specs.Result.Result.{accepted, refused}
 use Rattle.text.proofs.Laws.{text-length}
 use Rattle.writing.specs.declared.answer.Bytes.the-variants.{Count}
 use Rattle.writing.proofs.Room.{written-length}
-use Rattle.circuit.specs.Circuit.{Circuit, Latch}
+use Rattle.circuit.specs.Circuit.{Circuit}
 use Rattle.circuit.specs.Valuation.{outputValues, nextLatches}
 use Rattle.circuit_file.specs.File.{parseCircuit}
 use Rattle.simulator.specs.Simulation.{IsCycle, CyclesOn, OnCircuit, Simulates, digitsOutcome}

@@ -41,8 +41,8 @@ fn write_cycle(
 ) -> Bytes
     requires { ⌜ OfFile (tableWith header (now numbers)) ⌝ }
     requires { ⌜ (length (now inputs) ≡ header .inputs) × (length (now latches) ≡ header .latches) ⌝ }
-    ensures prints { λ r. ⌜ Printed (IsCycle (circuitIn (tableWith header (now (numbers .entry)))) (now (inputs .entry)) (now (latches .entry)))
-        (now (buf .entry)) (now (buf .exit)) r ⌝ }
+    ensures prints { λ r. ⌜ Printed (IsCycle (circuitIn (tableWith header (now (numbers .entry)))) (now (inputs .entry))
+        (now (latches .entry))) (now (buf .entry)) (now (buf .exit)) r ⌝ }
 {
     if buf.len() < header.outputs + header.latches {
         return too_short();
@@ -93,8 +93,8 @@ fn simulate_table(
 // SERVICE: one cycle of the circuit of a file, from the inputs' and the latches' digits: those of the outputs, then of the next latches,
 // written whole or not at all.
 pub fn simulate(circuit: &[u8], inputs: &[u8], latches: &[u8], buf: &mut [u8]) -> Bytes
-    ensures simulates { λ r. ⌜ TheOnlyPair (Simulates (now (circuit .entry)) (now (inputs .entry)) (now (latches .entry)) (now (buf .entry)))
-        (now (buf .exit)) r ⌝ }
+    ensures simulates { λ r. ⌜ TheOnlyPair (Simulates (now (circuit .entry)) (now (inputs .entry)) (now (latches .entry))
+        (now (buf .entry))) (now (buf .exit)) r ⌝ }
 {
     let read = circuit_file::read_circuit(circuit);
     let outcome = read.outcome;
