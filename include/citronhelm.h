@@ -6,7 +6,8 @@
  * has a state of its own or asks for memory: what a run keeps from call to call are bytes of the caller's. Input bytes are never altered.
  *
  * Numbers in a file's values may have leading zeros, five digits in all at most, as in `cycles=00012` and `r3=and 00001 00002`. Numbers in
- * its keys (`r1=`, `c0=`, `z1=`) may not, and the digits of `c` and `z` lines are no numbers. What is written has no leading zeros.
+ * its keys (`r1=`, `c0=`, `z1=`) may not, nor may those of a circuit file, and the digits of `c` and `z` lines are no numbers. What is
+ * written has no leading zeros.
  *
  * No function fails on any input. This presumes of the caller, and no proof can look at it:
  *  - that each pointer is valid for its length: so many bytes are there to be read, and to be written where it is an output;
@@ -235,7 +236,7 @@ uint64_t citronhelm_run_verdict(const uint8_t *run, size_t run_length);
  * signals, then each normal-form row's activator; there is one latch for each row, its pending one cycle earlier; its outputs are failed,
  * then accept, then pending, each by row. Answers its length; at most CITRONHELM_MOST_CIRCUIT bytes. Refusals behind the rule's own: 10.
  *
- * Simulated from latches at '0', the file gives in each cycle the digits that citronhelm_step gives from a fresh start.
+ * Simulated from latches at '0', its outputs are in each cycle the digits that citronhelm_step gives from a fresh start.
  */
 uint64_t citronhelm_circuit(const uint8_t *rule, size_t rule_length, uint8_t *output, size_t output_length);
 

@@ -7,7 +7,7 @@ set -euo pipefail
 cd "$(dirname "$0")/.."
 reading='text|rule_row|rule_file|take_file|sheet_file|circuit_line|circuit_file|padding'
 others=$(grep -rnE "Rattle·($reading)\.proofs\." crates --include='*.antt' --include='*.rt' |
-    grep -vE "^crates/($reading|rule_and_take)/|\.proofs\.(Laws|Rules|Takes|Sheets|Circuits)\." || true)
+    grep -vE "^crates/($reading|rule_and_take)/|\.proofs\.(Laws|Rules|Takes|Sheets|Circuits|CircuitTables)\." || true)
 if [ -n "$others" ]; then
     printf '%s\n' "$others" "tests/published_laws.sh: these cite how a reader is proved" >&2
     exit 1

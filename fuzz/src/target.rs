@@ -11,7 +11,7 @@ const MOST_NORMAL: usize = 2845;
 const MOST_STEP: usize = 384;
 const MOST_TEXT: usize = 64;
 const MOST_SHEET: usize = 33_567;
-const CIRCUIT: usize = 9789;
+const MOST_CIRCUIT: usize = 9789;
 
 #[derive(Clone, Copy, Debug, PartialEq, Eq)]
 pub enum Target {
@@ -122,7 +122,7 @@ fn on_rule(rule: &[u8]) {
     }
     alike_writing(
         "circuit",
-        CIRCUIT,
+        MOST_CIRCUIT,
         None,
         |output| library::circuit(rule, output),
         |output| coded(second::circuit(rule, output)),

@@ -12,3 +12,4 @@ pub mod Contents
 pub mod Circuits
 pub mod Tables
 pub mod Refusals
+pub mod CircuitTables

@@ -10,6 +10,7 @@ use native.Mathlib.Decide.{ℕ-discrete}
 use lib.ListN.{length, getD, take, drop, set, replicate, length-drop, length-set, length-replicate}
 use lib.Seq.{getD-set-same, getD-set-other, take-suc-set}
 use Rattle.tables.specs.declared.refusal.Reason.the-variants.{WrongForm}
+use Rattle.tables.proofs.Places.{replicate-at}
 use Rattle.text.specs.Search.{firstOf}
 use Rattle.text.specs.Number.{numberOf}
 use Rattle.text.specs.Result.{Parsed, onParsed}
@@ -42,11 +43,6 @@ pub record NumbersAt (count : ℕ) (text : List ℕ) (k : ℕ) (values rest : Li
   pub unused : (i : ℕ) → k ≤ i → getD values i 0 ≡ 0
   pub goes : numberList count text ≡ behind (take k values) (numberList (count - k) rest)
 
-pub zero-at : (n i : ℕ) → _≡_ {A = ℕ} (getD (replicate n 0) i 0) 0
-zero-at zero i = refl
-zero-at (suc n) zero = refl
-zero-at (suc n) (suc i) = zero-at n i
-
 pub numbers-start : (count : ℕ) (text : List ℕ) → 1 ≤ count → count ≤ 5 → NumbersAt count text 0 (replicate 5 0) text
 numbers-start count text l u =
     record {
@@ -54,8 +50,8 @@ numbers-start count text l u =
       short = u;
       sized = length-replicate {A = ℕ} 5 0;
       left = omega arith;
-      small = λ i. rw (zero-at 5 i) (omega arith);
-      unused = λ i _. zero-at 5 i;
+      small = λ i. rw (replicate-at {A = ℕ} 5 i 0) (omega arith);
+      unused = λ i _. replicate-at {A = ℕ} 5 i 0;
       goes = rw sub-zero (behind-none (numberList count text));
     }
 
@@ -128,7 +124,7 @@ Promised count text r =
     (numbersAs count r ≡ numberList count text) × (((i : ℕ) → getD (r .values) i 0 < 100000) × ((i : ℕ) → count ≤ i → getD (r .values) i 0 ≡ 0))
 
 pub numbers-wrong : (count : ℕ) (text : List ℕ) {r : Numbers} → r ≡ record { right = false; values = replicate 5 0 } → numberList count text ≡ bad WrongForm → Promised count text r
-numbers-wrong count text e q = rw (e, q) (refl, (λ i. rw (zero-at 5 i) (omega arith), λ i _. zero-at 5 i))
+numbers-wrong count text e q = rw (e, q) (refl, (λ i. rw (replicate-at {A = ℕ} 5 i 0) (omega arith), λ i _. replicate-at {A = ℕ} 5 i 0))
 
 pub numbers-right : {count : ℕ} {text : List ℕ} {k : ℕ} {values rest : List ℕ} → NumbersAt count text k values rest → count ≤ k + 1 → {n : ℕ} → numberOf rest ≡ Is n
     → Promised count text (record { right = true; values = set values k n })

@@ -10,7 +10,7 @@ use lib.Dec.{eqb}
 use lib.ListN.{length, getD, set, length-set}
 use lib.Seq.{getD-set-same, getD-set-other}
 use Rattle.tables.specs.Choice.{pick}
-use Rattle.circuit_values.specs.Values.{Evaluated, Gates, valueOf}
+use Rattle.circuit_values.specs.Values.{Evaluated, GatePlaces, valueOf}
 
 -- a literal's value changes only with its variable's
 pub value-kept : (values : List Bool) (x l : ℕ) (b : Bool) → ¬ (l / 2 ≡ x) → valueOf (set values x b) l ≡ valueOf values l
@@ -59,7 +59,7 @@ module _ {places numbers : List ℕ} where
       by y h n (no q) = d .ands y (omega arith) n
 
   -- one that has: operands are lower, so that what was put before stays right
-  module _ {most x : ℕ} (gates : Gates most places numbers) (below : x ≤ most) where
+  module _ {most x : ℕ} (gates : GatePlaces most places numbers) (below : x ≤ most) where
     done-put : {before now : List Bool} → most < length before → ¬ (getD places x 0 ≡ 0) → Done places numbers x before now → Done places numbers (x + 1) before (set now x (bothOf places numbers now x))
     done-put {before} {now} long some d = record {
       size = length-set now x (bothOf places numbers now x) ∙ d .size;

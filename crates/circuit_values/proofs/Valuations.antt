@@ -13,9 +13,9 @@ use Rattle.circuit.specs.Valuation.{IsValuation}
 use Rattle.circuit.proofs.Defined.{defined-size, defined-input, defined-latch, defined-gate}
 use Rattle.circuit_line.specs.declared.section.Header.{Header}
 use Rattle.circuit_file.specs.File.{circuitIn, numberAt}
-use Rattle.circuit_values.specs.Values.{valueAt}
-use Rattle.circuit_values.specs.Table.{OfFile, tableWith}
-use Rattle.circuit_values.specs.Values.{Distinct, Evaluated, Gates, Scattered, Spread, literalAt, valueOf, variableAt}
+use Rattle.text.specs.Digits.{valueAt}
+use Rattle.circuit_file.specs.OfFile.{OfFile, tableWith}
+use Rattle.circuit_values.specs.Values.{Distinct, Evaluated, GatePlaces, Scattered, Spread, literalAt, valueOf, variableAt}
 use Rattle.circuit_values.proofs.Sections.{Stands, sections-apart, section-variable, section-distinct}
 use Rattle.circuit_values.proofs.Gates.{value-even, value-odd}
 
@@ -149,7 +149,7 @@ module _ {h : Header} {numbers : List ℕ} (ok : OfFile (tableWith h numbers)) w
         let v = section-variable (h .maximum) defined own once gates-stand i l in
         (omega (arith, v .2, z .0), omega (arith, v .2, z .1))
 
-    pub gates-ready : Gates (h .maximum) places numbers
+    pub gates-ready : GatePlaces (h .maximum) places numbers
     gates-ready = record {
       inside = λ x l. ⊎-elim (λ e. let b = ok .size in omega arith) (λ p. let a = ok .few in let b = ok .size in let q = p .place in let r = p .among in omega arith) (place-of x);
       first-lower = λ x l n. ⊎-elim (λ e. absurd (n e)) (λ p. first x p) (place-of x);

@@ -8,10 +8,6 @@ use lib.ListN.{length, getD}
 use Rattle.tables.specs.Choice.{pick}
 use Rattle.tables.specs.Place.{tabulate}
 
--- the value that the digit at a place gives, counted from 0
-abbrev pub valueAt : List ℕ → ℕ → Bool
-valueAt digits i = eqb (getD digits i 0) 49
-
 -- the value of a literal, from the values of the variables by their index; index 0 is the constant false
 abbrev pub valueOf : List Bool → ℕ → Bool
 valueOf values l = pick (eqb (l % 2) 0) (getD values (l / 2) false) (not (getD values (l / 2) false))
@@ -42,7 +38,7 @@ pub record Scattered {A : Type 0} (none : A) (count : ℕ) (place : ℕ → ℕ)
   pub kept : (x : ℕ) → ((i : ℕ) → i < count → ¬ (place i ≡ x)) → getD after x none ≡ getD before x none
 
 -- by variable, the place of its gate's first operand; 0 where it has no gate. Operands are lower.
-pub record Gates (most : ℕ) (places numbers : List ℕ) : Type 0 where
+pub record GatePlaces (most : ℕ) (places numbers : List ℕ) : Type 0 where
   pub inside : (x : ℕ) → x ≤ most → getD places x 0 + 1 < length numbers
   pub first-lower : (x : ℕ) → x ≤ most → ¬ (getD places x 0 ≡ 0) → getD numbers (getD places x 0) 0 < 2 * x
   pub second-lower : (x : ℕ) → x ≤ most → ¬ (getD places x 0 ≡ 0) → getD numbers (getD places x 0 + 1) 0 < 2 * x

@@ -7,9 +7,10 @@ ghost use Rattle.text.specs.Written.{digitsText};
 ghost use Rattle.writing.specs.Lent.{Wrote};
 ghost use Rattle.circuit.specs.Valuation.{IsValuation};
 ghost use Rattle.circuit_file.specs.File.{circuitIn};
-ghost use Rattle.circuit_values.specs.Table.{OfFile, tableWith};
-ghost use Rattle.circuit_values.specs.Values.{Distinct, Evaluated, Gates, LiteralsWithin, Scattered, Spread};
-ghost use Rattle.circuit_values.specs.Values.{valueAt, valueOf, valuesAt, variableAt};
+ghost use Rattle.circuit_file.specs.OfFile.{OfFile, tableWith};
+ghost use Rattle.circuit_values.specs.Values.{Distinct, Evaluated, GatePlaces, LiteralsWithin, Scattered, Spread};
+ghost use Rattle.text.specs.Digits.{valueAt};
+ghost use Rattle.circuit_values.specs.Values.{valueOf, valuesAt, variableAt};
 use circuit_line::section::Header;
 
 // The value of a literal.
@@ -54,7 +55,7 @@ fn put_places(places: &mut [u16], numbers: &[u32], from: usize, gates: usize)
 
 // The gates' values, from the lowest variable up, since operands are lower.
 fn put_gates(values: &mut [bool], places: &[u16], numbers: &[u32], maximum: usize)
-    requires { ⌜ (maximum < length (now values)) × (maximum < length (now places)) × Gates maximum (now places) (now numbers) ⌝ }
+    requires { ⌜ (maximum < length (now values)) × (maximum < length (now places)) × GatePlaces maximum (now places) (now numbers) ⌝ }
     ensures evaluated { λ r. ⌜ Evaluated maximum (now (places .entry)) (now (numbers .entry)) (now (values .entry)) (now (values .exit)) ⌝ }
 {
     let mut x = 0;

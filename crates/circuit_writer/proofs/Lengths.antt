@@ -7,27 +7,32 @@ use native.Mathlib.Decide.{decLt}
 use native.Mathlib.Omega.{arith}
 use lib.ListN.{length, length-append}
 use Rattle.tables.specs.Bytes.{bytes}
+use Rattle.tables.specs.declared.refusal.Outcome.the-variants.{Accepted}
 use Rattle.tables.specs.declared.row.Formula.{Formula}
 use Rattle.tables.specs.declared.row.NormalForm.{NormalForm}
 use Rattle.text.specs.Written.{decimal}
+use Rattle.rule_file.specs.Outcome.{ruleOutcome}
 use Rattle.rule_file.specs.Valid.{InRange}
+use Rattle.rule_file.proofs.Rules.{checked}
 use Rattle.normal_form.specs.declared.sign.Sign.the-variants.{Plain}
 use Rattle.normal_form.specs.Form.{InNormalForm}
 use Rattle.normal_form.specs.Numbering.{normalForm}
 use Rattle.normal_form.proofs.Ranges.{form-normal}
+use Rattle.writing.specs.declared.answer.Bytes.the-variants.{Count}
+use Rattle.writing.proofs.Room.{room-enough}
 use Rattle.writing.proofs.Lengths.{decimal-most, decimal-two-most}
 use Rattle.writing.proofs.Texts.{decimal-more-length}
 use Rattle.circuit_file.specs.Written.{linesOf, spaced, writtenCircuit, writtenLines}
 use Rattle.monitor_circuit.specs.Monitors.{circuitOf, wiringOf}
 use Rattle.monitor_circuit.proofs.GateRows.{firstGate, secondGate, thirdGate}
-use Rattle.circuit_writer.specs.Answer.{circuitText}
+use Rattle.circuit_writer.specs.Answer.{circuitText, writerAnswer}
 use Rattle.circuit_writer.specs.Section.{gateLines, inputLines, latchLines, outputLines, saidLines}
 use Rattle.circuit_writer.specs.declared.section.Said.{Said}
 use Rattle.circuit_writer.specs.declared.section.Said.the-variants.{Failed, Accept, Pending}
 use Rattle.line_writer.proofs.Lines.{Blocks, blocksTo, lines-append}
 use Rattle.circuit_writer.proofs.Sections.{gate-blocks, gateBlock, gateLine, input-blocks, inputBlock, latch-blocks, latchBlock, outputs-parted, said-blocks, saidBlock}
 use Rattle.circuit_writer.proofs.Small.{FourDigits, gate-small, latch-small, row-small, said-small}
-use Rattle.circuit_writer.proofs.Whole.{file-parted, headerFrom}
+use Rattle.circuit_writer.proofs.Whole.{file-parted, headerNumbers}
 
 -- ---- lines of numbers of four digits at most: five bytes for each number
 
@@ -113,7 +118,7 @@ module _ (g : NormalForm) (ok : InNormalForm g) where
           )
 
   -- `aag ` and five numbers
-  header-most : length (bytes "aag " ++ writtenLines (headerFrom g ∷ [])) ≤ 29
+  header-most : length (bytes "aag " ++ writtenLines (headerNumbers g ∷ [])) ≤ 29
   header-most =
       omega (
         arith,
@@ -137,10 +142,14 @@ module _ (g : NormalForm) (ok : InNormalForm g) where
   pub form-most : length (writtenCircuit (circuitOf g)) ≤ 29 + 5 * g .signals + 75 * g .rows
   form-most =
       rw (← file-parted g)
-      (omega (arith, length-append (bytes "aag " ++ writtenLines (headerFrom g ∷ [])) (writtenLines (linesOf (circuitOf g))), header-most, lines-most))
+      (omega (arith, length-append (bytes "aag " ++ writtenLines (headerNumbers g ∷ [])) (writtenLines (linesOf (circuitOf g))), header-most, lines-most))
 
 -- THE FILE OF A RULE'S CIRCUIT HAS AT MOST 9,789 BYTES: 32 signals and 128 rows
 pub circuit-most : (f : Formula) → InRange f → length (circuitText f) ≤ 9789
 circuit-most f ok =
     let n = form-normal f Plain ok in
     omega (arith, form-most (normalForm f Plain) n, n .most-signals, n .most-rows)
+
+-- SO MANY BYTES LENT, AND THE WRITER ANSWERS, for every rule that passes its own check
+pub circuit-enough : (f : Formula) (buf : List ℕ) → ruleOutcome f ≡ Accepted → 9789 ≤ length buf → writerAnswer f buf ≡ Count (length (circuitText f))
+circuit-enough f buf own room = rw own (room-enough (circuitText f) buf (omega (arith, circuit-most f (checked f own))))

@@ -14,18 +14,18 @@ use Rattle.line_writer.proofs.Lines.{lines-append, more-lines}
 
 module _ (g : NormalForm) where
   -- the header's numbers from those of signals and rows
-  abbrev pub headerFrom : List ℕ
-  headerFrom = (g .signals + 5 * g .rows) ∷ (g .signals + g .rows) ∷ g .rows ∷ 3 * g .rows ∷ 3 * g .rows ∷ []
+  abbrev pub headerNumbers : List ℕ
+  headerNumbers = (g .signals + 5 * g .rows) ∷ (g .signals + g .rows) ∷ g .rows ∷ 3 * g .rows ∷ 3 * g .rows ∷ []
 
-  pub header-is : headerFrom ≡ headerOf (circuitOf g)
+  pub header-is : headerNumbers ≡ headerOf (circuitOf g)
   header-is = sym (rw (maximum-is g, inputs-size g, latches-size g, outputs-size g, gates-size g))
 
   -- the file is the header and the lines behind it
-  pub file-parted : (bytes "aag " ++ writtenLines (headerFrom ∷ [])) ++ writtenLines (linesOf (circuitOf g)) ≡ writtenCircuit (circuitOf g)
+  pub file-parted : (bytes "aag " ++ writtenLines (headerNumbers ∷ [])) ++ writtenLines (linesOf (circuitOf g)) ≡ writtenCircuit (circuitOf g)
   unfolding writtenCircuit
   file-parted =
-      append-assoc (bytes "aag ") (writtenLines (headerFrom ∷ [])) (writtenLines (linesOf (circuitOf g)))
-      ∙ (ap (λ t. bytes "aag " ++ t) (sym (lines-append (headerFrom ∷ []) (linesOf (circuitOf g))))
+      append-assoc (bytes "aag ") (writtenLines (headerNumbers ∷ [])) (writtenLines (linesOf (circuitOf g)))
+      ∙ (ap (λ t. bytes "aag " ++ t) (sym (lines-append (headerNumbers ∷ []) (linesOf (circuitOf g))))
       ∙ ap (λ h. bytes "aag " ++ writtenLines (h ∷ linesOf (circuitOf g))) header-is)
 
   -- the header has the numbers m i l o a
@@ -40,8 +40,8 @@ module _ (g : NormalForm) where
       let el = e .2 in
       let eo = e .3 in
       let ea = e .4 in
-      let same : m ∷ i ∷ l ∷ o ∷ n ∷ [] ≡ headerFrom = cc in
-      let first : Wrote before 0 (bytes "aag " ++ writtenLines (headerFrom ∷ [])) a at = wrote-is (ap (λ h. bytes "aag " ++ writtenLines (h ∷ [])) same) header in
+      let same : m ∷ i ∷ l ∷ o ∷ n ∷ [] ≡ headerNumbers = cc in
+      let first : Wrote before 0 (bytes "aag " ++ writtenLines (headerNumbers ∷ [])) a at = wrote-is (ap (λ h. bytes "aag " ++ writtenLines (h ∷ [])) same) header in
       wrote-is file-parted
       (wrote-both first
       (more-lines (inputLines g) (latchLines g ++ (outputLines g ++ gateLines g)) inputs

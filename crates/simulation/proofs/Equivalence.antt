@@ -22,9 +22,10 @@ use Rattle.step.specs.Step.{rowsIn}
 use Rattle.monitor_circuit.specs.Steps.{ruleCircuit}
 use Rattle.monitor_circuit.proofs.WellFormed.{inputs-size, latches-size, outputs-size}
 use Rattle.monitor_circuit.proofs.ReadBack.{rule-file-read}
+use Rattle.monitor_circuit.proofs.Inputs.{all-answered}
 use Rattle.monitor_circuit.proofs.Equivalence.{monitors-equal}
 use Rattle.circuit_writer.specs.Answer.{circuitText, writerAnswer, writerLeft}
-use Rattle.simulation.specs.FromZero.{Simulated, FromZero, digitsOf}
+use Rattle.simulation.specs.FromZero.{Simulated, FromZero, digitsUpTo}
 use Rattle.simulation.specs.Steps.{SameCycle, inputDigits}
 use Rattle.simulation.proofs.Runs.{simulated-exists, answers-run, outputs-run, nexts-run}
 
@@ -57,7 +58,7 @@ module _ (f : Formula) (own : ruleOutcome f ≡ Accepted) where
     module _ (file : List ℕ) (read : parseCircuit file ≡ accepted c) where
       file-exists : (s : Simulated) × ((n : ℕ) → FromZero c file n (inputDigits f inputs) buffers s)
       file-exists =
-          subst (λ m. (s : Simulated) × ((n : ℕ) → FromZero c file n (λ i. digitsOf m (inputs i)) buffers s)) inputs-many
+          subst (λ m. (s : Simulated) × ((n : ℕ) → FromZero c file n (λ i. digitsUpTo m (inputs i)) buffers s)) inputs-many
           (simulated-exists c file read inputs buffers room)
 
       file-same : (n : ℕ) (s : Simulated) → FromZero c file n (inputDigits f inputs) buffers s → (i : ℕ) → i < n → SameCycle f inputs s i
@@ -66,10 +67,11 @@ module _ (f : Formula) (own : ruleOutcome f ≡ Accepted) where
           let values : ℕ → Valuation = equal .0 .0 in
           let run : IsRun c n inputs values = equal .0 .1 n in
           let same = equal .1 n values run i h in
-          let calls : FromZero c file n (λ j. digitsOf (length (c .inputs)) (inputs j)) buffers s =
-          subst (λ m. FromZero c file n (λ j. digitsOf m (inputs j)) buffers s) (sym inputs-many) is in
+          let calls : FromZero c file n (λ j. digitsUpTo (length (c .inputs)) (inputs j)) buffers s =
+          subst (λ m. FromZero c file n (λ j. digitsUpTo m (inputs j)) buffers s) (sym inputs-many) is in
           record {
-            answered = answers-run c file read inputs buffers values n run room s calls i h ∙ ap Count written-many;
+            simulated = answers-run c file read inputs buffers values n run room s calls i h ∙ ap Count written-many;
+            stepped = all-answered f own inputs i;
             same-outputs =
                 ap (λ m. take m (s .lefts i)) (sym outputs-many) ∙ (outputs-run c file read inputs buffers values n run room s calls i h ∙ sym (same .0));
             same-latches =

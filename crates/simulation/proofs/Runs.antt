@@ -26,7 +26,7 @@ use Rattle.circuit_file.specs.File.{parseCircuit}
 use Rattle.circuit_file.proofs.Circuits.{circuit-read}
 use Rattle.simulator.specs.Simulation.{IsCycle, CyclesOn, OnCircuit, Simulates}
 use Rattle.simulator.proofs.Once.{cycle-once}
-use Rattle.simulation.specs.FromZero.{Simulated, FromZero, digitsOf}
+use Rattle.simulation.specs.FromZero.{Simulated, FromZero, digitsUpTo}
 use Rattle.simulation.proofs.Digits.{digit-there, digits-taken}
 
 module _ (c : Circuit) (file : List ℕ) (read : parseCircuit file ≡ accepted c) (inputs : ℕ → ℕ → Bool) (buffers : ℕ → List ℕ) where
@@ -40,7 +40,7 @@ module _ (c : Circuit) (file : List ℕ) (read : parseCircuit file ≡ accepted 
   kept = length (c .latches)
 
   abbrev pub given : ℕ → List ℕ
-  given i = digitsOf ins (inputs i)
+  given i = digitsUpTo ins (inputs i)
 
   formed : WellFormed c
   formed = circuit-read file c read .1
@@ -48,7 +48,7 @@ module _ (c : Circuit) (file : List ℕ) (read : parseCircuit file ≡ accepted 
   module _ (values : ℕ → Valuation) where
     -- the latches' digits of cycle i, and what is written in it
     abbrev latches : ℕ → List ℕ
-    latches i = digitsOf kept (latchIn c values i)
+    latches i = digitsUpTo kept (latchIn c values i)
 
     abbrev text : ℕ → List ℕ
     text i = digitsText (outputValues c (values i) ++ nextLatches c (values i))

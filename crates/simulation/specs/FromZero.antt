@@ -28,5 +28,5 @@ pub record FromZero (c : Circuit) (file : List ℕ) (n : ℕ) (inputs buffers : 
   pub simulates : (i : ℕ) → i < n → Simulates file (inputs i) (s .latches i) (buffers i) (s .lefts i) (s .answers i)
 
 -- the digits of so many values
-abbrev pub digitsOf : ℕ → (ℕ → Bool) → List ℕ
-digitsOf n x = digitsText (tabulate n x)
+abbrev pub digitsUpTo : ℕ → (ℕ → Bool) → List ℕ
+digitsUpTo n x = digitsText (tabulate n x)

@@ -21,10 +21,10 @@ use Rattle.circuit.proofs.Exists.{values-exist}
 use Rattle.circuit_file.specs.declared.CircuitTable.{CircuitTable}
 use Rattle.circuit_file.specs.File.{numberAt, circuitIn}
 use Rattle.simulator.specs.Simulation.{IsCycle, digitsOutcome, CyclesOn, Cycles}
-use Rattle.circuit_values.specs.Values.{valueAt}
-use Rattle.circuit_values.specs.Table.{OfFile}
+use Rattle.text.specs.Digits.{valueAt}
+use Rattle.circuit_file.specs.OfFile.{OfFile}
 use Rattle.circuit_values.specs.Values.{valueOf, literalAt, valuesAt}
-use Rattle.simulator.proofs.Files.{counted-inputs, counted-latches, counted-outputs}
+use Rattle.circuit_file.proofs.CircuitTables.{counted-inputs, counted-latches, counted-outputs}
 
 abbrev cycleText : Circuit → Valuation → List ℕ
 cycleText c v = digitsText (outputValues c v ++ nextLatches c v)

@@ -1,6 +1,6 @@
 -- What the simulator answers is fixed: a circuit has one text for a cycle. Assumes nothing.
 use Prim.Native.Nat.{ℕ, suc, _<_}
-use mathlib.Core.Path.{_≡_, refl, sym, ap, ap₂, subst⁻¹, _∙_}
+use mathlib.Core.Path.{_≡_, refl, sym, ap₂, subst⁻¹, _∙_}
 use mathlib.Core.List.{List, [], _∷_, _++_, map}
 use native.Mathlib.Omega.{arith}
 use lib.ListN.{length, getD}
@@ -8,19 +8,17 @@ use Rattle.tables.specs.Only.{TheOnlyPair}
 use Rattle.tables.specs.declared.refusal.Outcome.{Outcome}
 use Rattle.tables.specs.declared.refusal.Outcome.the-variants.{Accepted, Refused}
 use Rattle.tables.specs.declared.refusal.Refusal.{Refusal}
-use Rattle.text.specs.Result.{mapResult}
 use Rattle.text.specs.Written.{digitsText}
-use Rattle.text.proofs.Answered.{refused-table}
 use Rattle.writing.specs.declared.answer.Bytes.{Bytes}
 use Rattle.writing.proofs.Answers.{only-printed}
 use Rattle.circuit.specs.Circuit.{Circuit, Latch, outputAt, latchAt, WellFormed}
 use Rattle.circuit.specs.Valuation.{outputValues, nextLatches}
 use Rattle.circuit.proofs.Only.{values-only}
 use Rattle.circuit_file.specs.declared.CircuitAnswer.{CircuitAnswer}
-use Rattle.circuit_file.specs.File.{circuitFrom, circuitIn, circuitAnswer, parseContents}
+use Rattle.circuit_file.specs.File.{circuitIn, circuitAnswer, parseContents}
 use Rattle.simulator.specs.Simulation.{IsCycle, digitsOutcome, TurnedBack, CyclesOn, Cycles, OnCircuit, Simulates}
-use Rattle.circuit_values.specs.Values.{valueAt}
-use Rattle.simulator.proofs.Files.{read-table}
+use Rattle.text.specs.Digits.{valueAt}
+use Rattle.circuit_file.proofs.CircuitTables.{read-table, read-refused}
 
 -- two functions that agree on a list's elements
 map-agree : {A B : Type 0} (f g : A → B) (d : A) (xs : List A) → ((i : ℕ) → i < length xs → f (getD xs i d) ≡ g (getD xs i d)) → map f xs ≡ map g xs
@@ -62,6 +60,5 @@ module _ (inputs latches before : List ℕ) {after : List ℕ} {answer : Bytes} 
     pub file-turned-back : (why : Refusal) → a .outcome ≡ Refused why → TurnedBack before after answer why
         → TheOnlyPair (Simulates file inputs latches before) after answer
     file-turned-back why h =
-        refused-table 1 (parseContents file) (sym (ap (λ (x : CircuitAnswer). x .outcome) e) ∙ h)
-        (λ p why. TurnedBack before after answer why → TheOnlyPair (OnCircuit (mapResult circuitFrom p) inputs latches before) after answer)
+        read-refused file a e why h (λ p why. TurnedBack before after answer why → TheOnlyPair (OnCircuit p inputs latches before) after answer)
         (λ r n x. only-turned (record { reason = r; file = 1; line = n }) x)

@@ -16,7 +16,7 @@ use Rattle.circuit.specs.Circuit.{Circuit}
 use Rattle.circuit.specs.Valuation.{outputValues, nextLatches}
 use Rattle.circuit_file.specs.File.{parseCircuit}
 use Rattle.simulator.specs.Simulation.{IsCycle, CyclesOn, OnCircuit, Simulates, digitsOutcome}
-use Rattle.simulator.proofs.Files.{cycle-few}
+use Rattle.circuit_file.proofs.CircuitTables.{circuit-few}
 
 -- a digit for each output and each latch
 cycle-size : (c : Circuit) (inputs latches text : List ℕ) → IsCycle c inputs latches text → length text ≡ length (c .outputs) + length (c .latches)
@@ -33,7 +33,7 @@ simulated-few circuit inputs latches before after n = by (parseCircuit circuit) 
           arith,
           written-length (x .text) before (sym (x .delivered .answered)),
           cycle-size c inputs latches (x .text) (x .is-text),
-          cycle-few circuit c e,
+          circuit-few circuit c e,
         )
 
     by : (p : Result Circuit) → parseCircuit circuit ≡ p → OnCircuit p inputs latches before after (Count n) → n ≤ 32768

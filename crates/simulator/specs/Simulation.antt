@@ -11,7 +11,7 @@ use Rattle.tables.specs.Refusal.{andThen, callRefused, numbered}
 use Rattle.tables.specs.declared.refusal.Outcome.{Outcome}
 use Rattle.tables.specs.declared.refusal.Outcome.the-variants.{Accepted, Refused}
 use Rattle.tables.specs.declared.refusal.Refusal.{Refusal}
-use Rattle.text.specs.Digits.{areDigits}
+use Rattle.text.specs.Digits.{areDigits, valueAt}
 use Rattle.text.specs.Result.{Result}
 use Rattle.text.specs.Result.Result.{accepted, refused}
 use Rattle.text.specs.Written.{digitsText}
@@ -21,7 +21,6 @@ use Rattle.writing.specs.Answer.{Printed}
 use Rattle.circuit.specs.Circuit.{Circuit}
 use Rattle.circuit.specs.Valuation.{Valuation, IsValuation, outputValues, nextLatches}
 use Rattle.circuit_file.specs.File.{parseCircuit}
-use Rattle.circuit_values.specs.Values.{valueAt}
 
 -- "the outputs, then the next latches, as the report has them": by the values of the literals in a cycle with these inputs and latches
 pub record IsCycle (c : Circuit) (inputs latches text : List ℕ) : Type 0 where

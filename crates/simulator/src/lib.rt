@@ -5,7 +5,7 @@ ghost use Rattle.tables.specs.Only.{TheOnlyPair};
 ghost use Rattle.writing.specs.Answer.{Printed};
 ghost use Rattle.circuit_file.specs.File.{circuitIn};
 ghost use Rattle.simulator.specs.Simulation.{Cycles, IsCycle, Simulates, digitsOutcome};
-ghost use Rattle.circuit_values.specs.Table.{OfFile, tableWith};
+ghost use Rattle.circuit_file.specs.OfFile.{OfFile, tableWith};
 use circuit_line::section::Header;
 use tables::refusal::Outcome;
 use tables::refusal::Reason;

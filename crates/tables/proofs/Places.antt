@@ -37,6 +37,12 @@ replicate-tabulate zero k a = refl
 replicate-tabulate (suc n) k a = ap (_∷_ a) (replicate-tabulate n (suc k) a)
 
 -- a list by its elements at the places below its length
+-- a list of one element holds it everywhere, and behind its end as the default
+pub replicate-at : {A : Type 0} (n i : ℕ) (a : A) → getD (replicate n a) i a ≡ a
+replicate-at zero i a = refl
+replicate-at (suc n) zero a = refl
+replicate-at (suc n) (suc i) a = replicate-at n i a
+
 pub tabulate-getD : {A : Type 0} (xs : List A) (n : ℕ) (d : A) → length xs ≡ n → tabulate n (λ i. getD xs i d) ≡ xs
 tabulate-getD xs n d e =
     ext-getD d (tabulate n (λ i. getD xs i d)) xs (length-tabulate n 0 (λ i. getD xs i d) ∙ sym e)

@@ -16,7 +16,7 @@ pub enum Reason {
     TooManyCycles,
 }
 
-// A refusal: its reason, the file (1 rule, 2 take, 3 sheet, 0 none) and the line from 1 (0 none).
+// A refusal: its reason, the file (1 rule or circuit, 2 take, 3 sheet, 0 none) and the line from 1 (0 none).
 pub struct Refusal {
     pub reason: Reason,
     pub file: u8,

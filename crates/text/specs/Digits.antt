@@ -4,7 +4,7 @@ use mathlib.Core.Bool.{Bool, true, false}
 use mathlib.Core.List.{List, [], _∷_, map}
 use mathlib.Core.Path.{_≡_}
 use lib.Dec.{ltb, eqb}
-use lib.ListN.{length}
+use lib.ListN.{length, getD}
 use Rattle.tables.specs.Refusal.{numbered}
 use Rattle.tables.specs.Choice.{pick}
 use Rattle.text.specs.Search.{part}
@@ -21,6 +21,10 @@ areDigits (d ∷ ds) = pick (ltb d 48) false (pick (ltb 49 d) false (areDigits d
 -- what digits say
 abbrev pub digitsIn : List ℕ → List Bool
 digitsIn value = map (λ d. eqb d 49) value
+
+-- the value that the digit at a place gives, counted from 0
+abbrev pub valueAt : List ℕ → ℕ → Bool
+valueAt digits i = eqb (getD digits i 0) 49
 
 -- so many digits
 unfoldable pub digitsForm : ℕ → List ℕ → Parsed (List Bool)

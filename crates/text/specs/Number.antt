@@ -17,7 +17,7 @@ digitsFrom n (d ∷ ds) = pick (ltb d 48) Not (pick (ltb 57 d) Not (digitsFrom (
 unfoldable pub digitsOf : List ℕ → Number
 digitsOf ds = pick (ltb 5 (length ds)) Not (digitsFrom 0 ds)
 
--- a number in a key: at least one digit, and no 0 before another
+-- a number in a key, or of a circuit file ("as in our files but unpadded"): at least one digit, and no 0 before another
 unfoldable pub numberOf : List ℕ → Number
 numberOf [] = Not
 numberOf (d ∷ []) = digitsOf (d ∷ [])

@@ -6,6 +6,9 @@ use crate::refusal::{counted, Refusal};
 /// The bytes that [`circuit`] needs at most.
 pub const MOST_CIRCUIT: usize = 9789;
 
+/// The bytes that [`simulate`] needs at most, whatever the circuit.
+pub const MOST_SIMULATE: usize = 32_768;
+
 /// Writes a rule's monitors as an ASCII AIGER file, and answers its length: at most [`MOST_CIRCUIT`]. With s signals and n =
 /// [`rows`](crate::rows), its inputs are the signals and then each row's activator; there is a latch for each row, its pending one cycle
 /// earlier; its outputs are failed, then accept, then pending, each by row. Which gates and literals it has stands in the project's
@@ -43,10 +46,13 @@ pub fn circuit_vec(rule: &[u8]) -> Result<Vec<u8>, Refusal> {
 }
 
 /// One cycle of the circuit in an ASCII AIGER file. Inputs and latches are digits, `b'0'` and `b'1'`, in the order of the file. Writes the
-/// digits of the outputs, then of the next latches, and answers their number, which is that of outputs and latches together.
+/// digits of the outputs, then of the next latches, and answers their number, which is that of outputs and latches together: at most
+/// [`MOST_SIMULATE`].
 ///
-/// Files are read without symbols and comments, up to 65,536 bytes; their maximum index must be that of inputs, latches and gates together,
-/// and the operands of gates must have lower literals (`docs/CIRCUIT.md`). Refusals behind the file's own, in this order:
+/// Files are read without symbols and comments, up to 65,536 bytes; their numbers have at most five digits and no leading zeros, their
+/// maximum index must be that of inputs, latches and gates together, and the operands of gates must have lower literals
+/// (`docs/CIRCUIT.md`). A call takes some 313 KB of stack, more than all others; a thread of Rust has two megabytes, if it is given no
+/// other size. Refusals behind the file's own, in this order:
 /// [`WrongForm`](crate::Reason::WrongForm) with no file (another byte than a digit),
 /// [`DifferentSignals`](crate::Reason::DifferentSignals) (another number of inputs),
 /// [`DifferentSize`](crate::Reason::DifferentSize) (of latches), [`OutputTooShort`](crate::Reason::OutputTooShort).

@@ -8,7 +8,8 @@
 //! refused call leaves them as they were, and an answered one leaves the bytes behind its output as they were.
 //!
 //! Numbers in a file's values may have leading zeros, five digits in all at most, as in `cycles=00012`. Numbers in its keys (`r1=`,
-//! `c0=`, `z1=`) may not, and the digits of `c` and `z` lines are no numbers. What is written has no leading zeros.
+//! `c0=`, `z1=`) may not, nor may those of a circuit file, and the digits of `c` and `z` lines are no numbers. What is written has no leading
+//! zeros.
 //!
 //! The services have no state and need no memory but the caller's; the functions whose names end in `_vec` allocate, no more than they
 //! return. How long an output has to be is said beforehand by [`normal_length`] for [`normal`] and by [`sheet_length`] for [`make_sheet`].
@@ -56,7 +57,7 @@ mod sheets;
 mod steps;
 mod verdict;
 
-pub use circuits::{circuit, circuit_vec, simulate, MOST_CIRCUIT};
+pub use circuits::{circuit, circuit_vec, simulate, MOST_CIRCUIT, MOST_SIMULATE};
 pub use finding::Finding;
 pub use judging::{judge, judge_looped, judge_open, judge_text, MOST_TEXT};
 pub use reading::{bound, normal, normal_length, normal_vec, read_rule, read_sheet, read_take, rows, MOST_NORMAL};

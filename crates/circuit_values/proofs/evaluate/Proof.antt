@@ -4,7 +4,7 @@ use mathlib.Core.Path.{_∙_}
 use native.Mathlib.Omega.{arith}
 use lib.ListN.{length-replicate}
 use borrow.Author.Needs.{needs}
-use Rattle.circuit_line.proofs.NumberLists.{zero-at}
+use Rattle.tables.proofs.Places.{replicate-at}
 use Rattle.circuit_values.proofs.Valuations.{inputs-spread, latches-spread, gates-spread, most-small, inputs-distinct, latches-distinct, gates-distinct, gates-ready, is-valuation}
 use Rattle.circuit_values.proofs.evaluate.Statement.{statement}
 use Rattle.circuit_values.proofs.evaluate.Tie as tie
@@ -34,7 +34,7 @@ put-gates-requires c κs =
     let small = most-small (pre .0) in (
       omega (arith, pre .1 .1 .0, c .before .before .before .before .before .before .before .before .put-given .ensures .size, c .before .before .before .before .put-given2 .ensures .size),
       omega (arith, places .size, length-replicate {A = ℕ} 32770 0),
-      gates-ready (pre .0) (zero-at 32770) places,
+      gates-ready (pre .0) (λ x. replicate-at {A = ℕ} 32770 x 0) places,
     )
 
 returns : tie.Need-returns
@@ -43,7 +43,7 @@ returns c =
     let given = c .before .before .before .before .before .before .before .before .before .before .before .put-given .ensures in
     let both = c .before .before .before .before .before .before .before .put-given2 .ensures in
     let all = c .before .before .put-gates .ensures in (
-      is-valuation (start .pre .0) (zero-at 32770) (c .before .before .before .before .before .before .before .before .before .before .before .before .before .before .put-places .ensures) (start .args .inputs .now) (start .args .latches .now)
+      is-valuation (start .pre .0) (λ x. replicate-at {A = ℕ} 32770 x 0) (c .before .before .before .before .before .before .before .before .before .before .before .before .before .before .put-places .ensures) (start .args .inputs .now) (start .args .latches .now)
           (start .pre .1 .0 .0) (start .pre .1 .0 .1) (start .pre .1 .1 .1) given both all,
       all .size ∙ both .size ∙ given .size ∙ start .pre .1 .1 .0,
     )

@@ -3,7 +3,7 @@ use mathlib.Core.Bool.{false}
 use native.Mathlib.Omega.{arith}
 use lib.ListN.{length}
 use borrow.Author.Needs.{needs}
-use Rattle.circuit_values.specs.Values.{valueAt}
+use Rattle.text.specs.Digits.{valueAt}
 use Rattle.circuit_values.specs.Values.{Scattered, variableAt}
 use Rattle.circuit_values.proofs.Scatter.{scattered-none, scattered-more, scattered-all}
 use Rattle.circuit_values.proofs.put_given.Statement.{statement}

@@ -1,5 +1,5 @@
 use mathlib.Core.Path.{refl}
-use Rattle.simulator.proofs.Files.{read-table}
+use Rattle.circuit_file.proofs.CircuitTables.{read-table}
 use Rattle.simulator.proofs.Once.{file-simulated, file-turned-back}
 use borrow.Author.Needs.{needs}
 use Rattle.simulator.proofs.simulate.Statement.{statement}

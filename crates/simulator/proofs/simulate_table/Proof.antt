@@ -1,6 +1,6 @@
 use mathlib.Core.Path.{refl}
 use Rattle.tables.proofs.Choices.{know}
-use Rattle.circuit_values.specs.Table.{tableWith}
+use Rattle.circuit_file.specs.OfFile.{tableWith}
 use Rattle.simulator.proofs.Digits.{accepted-counts}
 use Rattle.simulator.proofs.Cycle.{cycles-on}
 use borrow.Author.Needs.{needs}

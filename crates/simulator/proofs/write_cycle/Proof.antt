@@ -1,7 +1,7 @@
 use native.Mathlib.Omega.{arith}
 use lib.ListN.{length-replicate, getD-replicate}
 use mathlib.Core.Bool.{false}
-use Rattle.circuit_values.specs.Table.{tableWith}
+use Rattle.circuit_file.specs.OfFile.{tableWith}
 use Rattle.simulator.proofs.Files.{outputs-spread, outputs-within, nexts-spread, nexts-within}
 use Rattle.simulator.proofs.Cycle.{room-behind, with-room, no-room}
 use borrow.Author.Needs.{needs}
