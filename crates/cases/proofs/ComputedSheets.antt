@@ -39,7 +39,7 @@ use Rattle.normal_form.specs.Form.{InNormalForm}
 use Rattle.normal_form.specs.Numbering.{normalForm}
 use Rattle.normal_form.proofs.Ranges.{form-normal}
 use Rattle.normal_form.proofs.FormTables.{form-ordered}
-use Rattle.truth.specs.Truth.{TrueIn}
+use Rattle.lanes.specs.Truth.{TrueIn}
 use Rattle.monitors.specs.Sheet.{activatorAt, IsRow}
 use Rattle.writing.specs.Answer.{writtenAnswer}
 use Rattle.writing.specs.Lent.{overlaid}

@@ -20,8 +20,8 @@ use Rattle.normal_form.specs.declared.sign.Sign.the-variants.{Plain, Negated}
 use Rattle.normal_form.specs.Form.{InNormalForm}
 use Rattle.normal_form.specs.Numbering.{normalForm}
 use Rattle.normal_form.proofs.Demand.{satisfied-alike}
-use Rattle.truth.specs.Truth.{laneIn, TrueIn, TrueAt, Filled}
-use Rattle.row_lanes.proofs.Passes.{shown-bit}
+use Rattle.lanes.specs.Truth.{laneIn, TrueIn, TrueAt, Filled}
+use Rattle.lanes.proofs.Shown.{shown-bit}
 use Rattle.judging.specs.declared.verdict.Verdict.the-variants.{Holds, Breaks, Kept, Broken, Open}
 use Rattle.judging.specs.Verdict.{VerdictOf}
 use Rattle.judging.proofs.Verdicts.{kept-not-broken, holds-verdict, breaks-verdict, kept-verdict, broken-verdict, open-verdict}

@@ -17,7 +17,7 @@ ghost use Rattle.take_file.specs.Valid.{InRange as TraceInRange};
 ghost use Rattle.normal_form.specs.Form.{InNormalForm};
 ghost use Rattle.normal_form.specs.Numbering.{normalForm};
 ghost use Rattle.normal_form.specs.declared.sign.Sign.the-variants.{Plain};
-ghost use Rattle.truth.specs.Truth.{TrueAt};
+ghost use Rattle.lanes.specs.Truth.{TrueAt};
 ghost use Rattle.judging.specs.Verdict.{VerdictOf};
 ghost use Rattle.meeting.specs.Meeting.{meetingOutcome, pairOutcome};
 ghost use Rattle.meeting.specs.declared.Wanted.the-variants.{Either, Looped, Unlooped};

@@ -14,7 +14,7 @@ use Rattle.lanes.specs.Word.{Ends}
 use Rattle.lanes.proofs.Words.{word-and, word-or, word-last}
 use Rattle.lanes.proofs.Windows.{keepTo, goalTo, keep-to-ends, goal-to-ends, window}
 
-pub no-more : (a b : Bool) → b ≡ (b || (a && false))
+no-more : (a b : Bool) → b ≡ (b || (a && false))
 no-more a true = refl
 no-more true false = refl
 no-more false false = refl

@@ -5,3 +5,4 @@ pub mod Carries
 pub mod LaneWords
 pub mod Masks
 pub mod Recordings
+pub mod Shown

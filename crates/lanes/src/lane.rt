@@ -6,7 +6,6 @@ ghost use Prim.Native.Nat.{ℕ, suc, _-_, _≤_, _<_};
 ghost use lib.Dec.{ltb, eqb};
 ghost use Rattle.tables.specs.Bit.{bitAt, laneOf};
 ghost use Rattle.meaning.specs.Approximant.{approximant};
-ghost use Rattle.lanes.specs.Word.{Ends};
 
 pub fn bit(lane: Lane, cycle: usize) -> bool
     requires { ⌜ cycle < 256 ⌝ }
@@ -90,7 +89,7 @@ pub fn none() -> Lane
 }
 
 // One cycle alone.
-pub fn single(cycle: usize) -> Lane
+fn single(cycle: usize) -> Lane
     requires { ⌜ cycle < 256 ⌝ }
     ensures answer { λ r. ⌜ r ≡ laneOf (λ i. eqb i cycle) ⌝ }
 {
@@ -98,23 +97,11 @@ pub fn single(cycle: usize) -> Lane
 }
 
 // The last of so many cycles alone.
-pub fn last(cycles: usize) -> Lane
+fn last(cycles: usize) -> Lane
     requires { ⌜ (1 ≤ cycles) × (cycles ≤ 256) ⌝ }
     ensures answer { λ r. ⌜ r ≡ laneOf (λ i. eqb (suc i) cycles) ⌝ }
 {
     single(cycles - 1)
-}
-
-// Until over a recording of n cycles: at each of them the goal is met there or later, with keep up to it, or keep goes on to the end
-// and `ahead` holds behind it. `last` is the last cycle alone.
-pub fn until(keep: Lane, goal: Lane, last: Lane, ahead: bool) -> Lane
-    ensures lane { λ r. ⌜ ((n : ℕ) (k g : ℕ → Bool) → n ≤ 256 → Ends n k → Ends n g → keep ≡ laneOf k → goal ≡ laneOf g
-        → last ≡ laneOf (λ i. eqb (suc i) n) → r ≡ laneOf (λ i. ltb i n && approximant k g ahead (n - i) i)) ⌝ }
-{
-    if ahead {
-        return carry(keep, either(goal, both(keep, last)));
-    }
-    carry(keep, goal)
 }
 
 // So many cycles, all of them: those from which the last is still to come.

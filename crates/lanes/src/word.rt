@@ -27,7 +27,7 @@ fn twice(x: Stretch, s: u32) -> Stretch
 }
 
 // At each cycle: the goal is met in this word, with keep up to it. Six doublings instead of 64 steps.
-pub fn carry_back(keep: u64, goal: u64) -> u64
+fn carry_back(keep: u64, goal: u64) -> u64
     ensures word { λ r. ⌜ ((b : ℕ) (k g : ℕ → Bool) → Ends (b + 64) k → Ends (b + 64) g → keep ≡ wordFrom 64 b k → goal ≡ wordFrom 64 b g
         → r ≡ wordFrom 64 b (approximant k g false 64)) ⌝ }
 {

@@ -1,3 +1,2 @@
-pub mod Passes
-pub mod Nexts
 pub mod RowLanes
+pub mod Passes

@@ -1,58 +1,41 @@
--- One pass over an open take, two over a lasso. Assumes nothing.
-use Prim.Native.Nat.{ℕ, _-_, _≤_, _<_}
-use mathlib.Core.Path.{_≡_, sym, ap, _∙_}
-use mathlib.Core.Bool.{Bool, true, false, _&&_}
+-- The lanes of until and next over an open take. Assumes nothing.
+use Prim.Native.Nat.{ℕ, suc, _-_, _≤_, _<_}
+use mathlib.Core.Path.{_≡_, sym, _∙_}
+use mathlib.Core.Bool.{Bool, false}
 use native.Mathlib.Decide.{decLt}
 use native.Mathlib.Omega.{arith}
 use lib.Dec.{ltb}
 use borrow.Author.Tests.{lt-ltb, le-ltb}
-use Rattle.tables.specs.Bit.{bitAt, laneOf}
+use Rattle.tables.specs.Bit.{laneOf}
 use Rattle.tables.specs.declared.trace.Lane.{Lane}
-use Rattle.tables.specs.declared.trace.Ending.{Ending}
-use Rattle.tables.specs.declared.trace.Ending.the-variants.{Open, Loop}
-use Rattle.tables.proofs.Bits.{bit-of-lane, lane-ext}
+use Rattle.tables.proofs.Bits.{lane-ext}
 use Rattle.meaning.specs.Approximant.{approximant}
 use Rattle.meaning.proofs.Streams.{approximant-local}
-use Rattle.lanes.specs.Word.{Ends}
-use Rattle.take_file.specs.Valid.{Below as LoopBelow}
-use Rattle.row_lanes.specs.Span.{Shows}
-use Rattle.row_lanes.specs.Pass.{untilPass}
+use Rattle.lanes.specs.Truth.{Shows}
+use Rattle.lanes.proofs.Recordings.{recording-carry}
+use Rattle.lanes.proofs.Shown.{cut, cut-same, cut-ends, shows-alike}
+use Rattle.row_lanes.specs.Pass.{untilPass, nextPass}
+use Rattle.row_lanes.proofs.RowLanes.{and-off}
 
--- f at the first n cycles alone
-abbrev pub cut : ℕ → (ℕ → Bool) → ℕ → Bool
-cut n f i = ltb i n && f i
+module _ (n : ℕ) (most : n ≤ 256) where
+  -- what lane::carry promises
+  abbrev Carried : Lane → Lane → Lane → Type 0
+  Carried keep goal r = (k g : ℕ → Bool) → keep ≡ laneOf k → goal ≡ laneOf g → r ≡ laneOf (λ i. approximant k g false (256 - i) i)
 
-pub cut-same : (n : ℕ) (f : ℕ → Bool) (i : ℕ) → i < n → cut n f i ≡ f i
-cut-same n f i h = ap (λ b. b && f i) (lt-ltb i n h)
+  -- keep and goal end with the take, so what they are behind it does not count
+  pub carry-shown : (k g : ℕ → Bool) {keep goal r : Lane} → Carried keep goal r → Shows n keep k → Shows n goal g → Shows n r (untilPass n k g)
+  carry-shown k g c s t =
+      c (cut n k) (cut n g) s t
+      ∙ recording-carry n most (cut n k) (cut n g) (cut-ends n k) (cut-ends n g)
+      ∙ shows-alike n _ _ (λ i h. approximant-local (cut n k) (cut n g) k g false (n - i) i (λ j a b. (cut-same n k j (omega arith), cut-same n g j (omega arith))))
 
-pub cut-ends : (n : ℕ) (f : ℕ → Bool) → Ends n (cut n f)
-cut-ends n f i h = ap (λ b. b && f i) (le-ltb i n h)
+  -- what lane::next promises
+  abbrev Later : Lane → Lane → Type 0
+  Later lane r = (f : ℕ → Bool) → f 256 ≡ false → lane ≡ laneOf f → r ≡ laneOf (λ i. f (suc i))
 
--- lanes show alike what is alike at their cycles
-pub shows-alike : (n : ℕ) (f g : ℕ → Bool) → ((i : ℕ) → i < n → f i ≡ g i) → laneOf (cut n f) ≡ laneOf (cut n g)
-shows-alike n f g e = lane-ext _ _ (λ i h. by i (decLt i n))
-  where
-    by : (i : ℕ) → Dec (i < n) → cut n f i ≡ cut n g i
-    by i (yes h) = cut-same n f i h ∙ e i h ∙ sym (cut-same n g i h)
-    by i (no h) = cut-ends n f i (omega arith) ∙ sym (cut-ends n g i (omega arith))
-
--- a lane is at each of its cycles what it shows
-pub shown-bit : (n : ℕ) (lane : Lane) (f : ℕ → Bool) → n ≤ 256 → Shows n lane f → (i : ℕ) → i < n → bitAt lane i ≡ f i
-shown-bit n lane f most s i h = ap (λ (x : Lane). bitAt x i) s ∙ bit-of-lane (cut n f) i (omega arith) ∙ cut-same n f i h
-
-module _ (n : ℕ) (k g : ℕ → Bool) where
-  -- the lane of a pass, with x behind the end
-  abbrev pub passed : Bool → Lane
-  passed x = laneOf (cut n (λ i. approximant k g x (n - i) i))
-
-  -- what keep and goal are behind the end does not count
-  pub cut-pass : (x : Bool) → laneOf (cut n (λ i. approximant (cut n k) (cut n g) x (n - i) i)) ≡ passed x
-  cut-pass x = shows-alike n _ _ (λ i h. approximant-local (cut n k) (cut n g) k g x (n - i) i (λ j a b. (cut-same n k j (omega arith), cut-same n g j (omega arith))))
-
-  pub open-pass : (weak : Bool) (ending : Ending) → ending ≡ Open → passed false ≡ laneOf (cut n (untilPass n ending k g weak))
-  open-pass weak ending e = rw e
-
-  pub loop-pass : (weak ahead : Bool) (once : Lane) (ending : Ending) (l : ℕ) → n ≤ 256 → ending ≡ Loop l → LoopBelow n ending → once ≡ passed weak → ahead ≡ bitAt once l → passed ahead ≡ laneOf (cut n (untilPass n ending k g weak))
-  loop-pass weak ahead once ending l most e within o a =
-      let h : l < n = rw e at within in
-      rw e (ap passed (a ∙ shown-bit n once (λ i. approximant k g weak (n - i) i) most o l h))
+  pub next-shown : (q : ℕ → Bool) {lane r : Lane} → Later lane r → Shows n lane q → Shows n r (nextPass n q)
+  next-shown q l s = l (cut n q) (cut-ends n q 256 most) s ∙ lane-ext _ _ (λ i h. by i (decLt (suc i) n))
+    where
+      by : (i : ℕ) → Dec (suc i < n) → cut n q (suc i) ≡ cut n (nextPass n q) i
+      by i (yes h) = rw (lt-ltb i n (omega arith), lt-ltb (suc i) n h)
+      by i (no h) = rw (le-ltb (suc i) n (omega arith)) (sym (and-off (ltb i n)))

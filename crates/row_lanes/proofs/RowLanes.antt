@@ -6,10 +6,17 @@ use lib.Dec.{ltb}
 use Rattle.tables.specs.Bit.{bitAt, laneOf}
 use Rattle.tables.specs.declared.trace.Lane.{Lane}
 use Rattle.tables.proofs.Bits.{lane-ext}
+use Rattle.lanes.specs.Truth.{Shows}
 use Rattle.lanes.proofs.Masks.{known-masked}
-use Rattle.row_lanes.specs.Span.{Shows}
-use Rattle.row_lanes.proofs.Passes.{cut, cut-same, shows-alike}
-use Rattle.row_lanes.proofs.Nexts.{and-on, and-off}
+use Rattle.lanes.proofs.Shown.{cut, cut-same, shows-alike}
+
+pub and-off : (b : Bool) → (b && false) ≡ false
+and-off true = refl
+and-off false = refl
+
+and-on : (b : Bool) → (b && true) ≡ b
+and-on true = refl
+and-on false = refl
 
 module _ (n : ℕ) where
   -- every cycle, and none

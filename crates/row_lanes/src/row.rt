@@ -1,109 +1,62 @@
-// The lane of one row from the lanes of its operands.
-use crate::Span;
+// The lane of one row from the lanes of its operands, over an open take. `all` is the lane of its cycles.
 use tables::row::BinaryKind;
 use tables::row::ConstantKind;
 use tables::row::SignalKind;
 use tables::row::UnaryKind;
-use tables::trace::Ending;
 use tables::trace::Lane;
-ghost use mathlib.Core.Path.{_≡_};
 ghost use mathlib.Core.Bool.{Bool};
-ghost use Prim.Native.Nat.{ℕ};
+ghost use Prim.Native.Nat.{ℕ, _≤_};
 ghost use Rattle.tables.specs.Bit.{bitAt};
 ghost use Rattle.meaning.specs.Rows.{positive};
 ghost use Rattle.meaning.specs.Pattern.{binaryPattern, constantBit, signalSign, unaryLeft, unaryPattern, signedBit};
-ghost use Rattle.take_file.specs.Valid.{Below as LoopBelow};
-ghost use Rattle.row_lanes.specs.Span.{SpanOf, Shows, bitBehind};
-ghost use Rattle.row_lanes.specs.Pass.{nextPass, passBit, untilPass};
+ghost use Rattle.lanes.specs.Truth.{Shows};
+ghost use Rattle.row_lanes.specs.Pass.{CyclesOf, passBit};
 
-// Until (weak: or keep for ever). A lasso is gone over twice: what the first pass finds at the loop's cycle is what holds behind the
-// last one. One pass more would change nothing, since keep and goal repeat with the loop.
-fn temporal(keep: Lane, goal: Lane, weak: bool, span: Span) -> Lane
-    requires { ⌜ LoopBelow 256 (span .ending) ⌝ }
-    ensures shows { λ r. ⌜ ((n : ℕ) (k g : ℕ → Bool) → SpanOf n span → Shows n keep k → Shows n goal g
-        → Shows n r (untilPass n (span .ending) k g weak)) ⌝ }
-{
-    let ending = span.ending;
-    match ending {
-        Ending::Open => lanes::lane::until(keep, goal, span.last, false),
-        Ending::Loop(start) => {
-            let once = lanes::lane::until(keep, goal, span.last, weak);
-            let ahead = lanes::lane::bit(once, start as usize);
-            lanes::lane::until(keep, goal, span.last, ahead)
-        }
-    }
-}
-
-// What a lane is at the cycle behind the last.
-fn entered(a: Lane, ending: Ending) -> bool
-    requires { ⌜ LoopBelow 256 ending ⌝ }
-    ensures answer { λ r. ⌜ r ≡ bitBehind (bitAt a) ending ⌝ }
-{
-    match ending {
-        Ending::Open => false,
-        Ending::Loop(start) => lanes::lane::bit(a, start as usize),
-    }
-}
-
-// Next: behind the last cycle comes the loop's, or none.
-fn next(a: Lane, span: Span) -> Lane
-    requires { ⌜ LoopBelow 256 (span .ending) ⌝ }
-    ensures shows { λ r. ⌜ ((n : ℕ) (q : ℕ → Bool) → SpanOf n span → Shows n a q → Shows n r (nextPass n (span .ending) q)) ⌝ }
-{
-    let later = lanes::lane::next(a);
-    let ending = span.ending;
-    if entered(a, ending) {
-        return lanes::lane::either(later, span.last);
-    }
-    later
-}
-
-pub fn constant(kind: ConstantKind, span: Span) -> Lane
-    ensures shows { λ r. ⌜ ((n : ℕ) → SpanOf n span → Shows n r (λ i. constantBit kind)) ⌝ }
+pub fn constant(kind: ConstantKind, all: Lane) -> Lane
+    ensures shows { λ r. ⌜ ((n : ℕ) → CyclesOf n all → Shows n r (λ i. constantBit kind)) ⌝ }
 {
     match kind {
-        ConstantKind::True => span.all,
+        ConstantKind::True => all,
         ConstantKind::False => lanes::lane::none(),
     }
 }
 
 // A signal's lane may have anything behind the last cycle.
-pub fn signal(kind: SignalKind, lane: Lane, span: Span) -> Lane
-    ensures shows { λ r. ⌜ ((n : ℕ) → SpanOf n span → Shows n r (λ i. signedBit (signalSign kind) (bitAt lane i))) ⌝ }
+pub fn signal(kind: SignalKind, lane: Lane, all: Lane) -> Lane
+    ensures shows { λ r. ⌜ ((n : ℕ) → CyclesOf n all → Shows n r (λ i. signedBit (signalSign kind) (bitAt lane i))) ⌝ }
 {
-    let on = lanes::lane::both(lane, span.all);
+    let on = lanes::lane::both(lane, all);
     match kind {
         SignalKind::Sig => on,
-        SignalKind::Nsig => lanes::lane::without(span.all, on),
+        SignalKind::Nsig => lanes::lane::without(all, on),
     }
 }
 
-// A row with one operand: ever a is until true a, always a is weak a false.
-pub fn unary(kind: UnaryKind, a: Lane, span: Span) -> Lane
-    requires { ⌜ LoopBelow 256 (span .ending) ⌝ }
-    ensures shows { λ r. ⌜ ((n : ℕ) (q : ℕ → Bool) → SpanOf n span → Shows n a q
-        → Shows n r (passBit n (span .ending) (λ i. unaryLeft kind) (λ i. signedBit (positive kind) (q i)) (unaryPattern kind))) ⌝ }
+// A row with one operand: ever a is until true a. Strong: nothing holds behind the end, so weak is until, and always a is until a false.
+pub fn unary(kind: UnaryKind, a: Lane, all: Lane) -> Lane
+    ensures shows { λ r. ⌜ ((n : ℕ) (q : ℕ → Bool) → n ≤ 256 → CyclesOf n all → Shows n a q
+        → Shows n r (passBit n (λ i. unaryLeft kind) (λ i. signedBit (positive kind) (q i)) (unaryPattern kind))) ⌝ }
 {
     match kind {
-        UnaryKind::Not => lanes::lane::without(span.all, a),
-        UnaryKind::Next => next(a, span),
-        UnaryKind::Always => temporal(a, lanes::lane::none(), true, span),
-        UnaryKind::Ever => temporal(span.all, a, false, span),
+        UnaryKind::Not => lanes::lane::without(all, a),
+        UnaryKind::Next => lanes::lane::next(a),
+        UnaryKind::Always => lanes::lane::carry(a, lanes::lane::none()),
+        UnaryKind::Ever => lanes::lane::carry(all, a),
     }
 }
 
-// A row with two operands: release a b is weak b (a and b), and srelease a b is until b (a and b).
-pub fn binary(kind: BinaryKind, a: Lane, b: Lane, span: Span) -> Lane
-    requires { ⌜ LoopBelow 256 (span .ending) ⌝ }
-    ensures shows { λ r. ⌜ ((n : ℕ) (p q : ℕ → Bool) → SpanOf n span → Shows n a p → Shows n b q
-        → Shows n r (passBit n (span .ending) p q (binaryPattern kind))) ⌝ }
+// A row with two operands: release a b is weak b (a and b), and srelease a b is until b (a and b). Strong: nothing holds behind the end,
+// so weak is until, and release is srelease.
+pub fn binary(kind: BinaryKind, a: Lane, b: Lane) -> Lane
+    ensures shows { λ r. ⌜ ((n : ℕ) (p q : ℕ → Bool) → n ≤ 256 → Shows n a p → Shows n b q
+        → Shows n r (passBit n p q (binaryPattern kind))) ⌝ }
 {
     match kind {
         BinaryKind::And => lanes::lane::both(a, b),
         BinaryKind::Or => lanes::lane::either(a, b),
-        BinaryKind::Weak => temporal(a, b, true, span),
-        BinaryKind::Until => temporal(a, b, false, span),
-        BinaryKind::Release => temporal(b, lanes::lane::both(a, b), true, span),
-        BinaryKind::Srelease => temporal(b, lanes::lane::both(a, b), false, span),
+        BinaryKind::Weak => lanes::lane::carry(a, b),
+        BinaryKind::Until => lanes::lane::carry(a, b),
+        BinaryKind::Release => lanes::lane::carry(b, lanes::lane::both(a, b)),
+        BinaryKind::Srelease => lanes::lane::carry(b, lanes::lane::both(a, b)),
     }
 }

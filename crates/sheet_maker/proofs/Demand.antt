@@ -34,8 +34,8 @@ use Rattle.normal_form.specs.Numbering.{normalForm}
 use Rattle.normal_form.proofs.Ranges.{form-normal}
 use Rattle.normal_form.proofs.FormTables.{form-operands, form-positive}
 use Rattle.normal_form.proofs.Demand.{satisfied-alike}
-use Rattle.truth.specs.Truth.{TrueIn}
-use Rattle.truth.proofs.Filling.{told-bits}
+use Rattle.lanes.specs.Truth.{TrueIn}
+use Rattle.truth.proofs.Told.{told-bits}
 use Rattle.judging.specs.Verdict.{IsKept}
 use Rattle.meeting.specs.Meeting.{pairOutcome}
 use Rattle.meeting.specs.declared.Wanted.the-variants.{Either}
@@ -77,7 +77,7 @@ module _ (g : NormalForm) (t : Trace) (ok : InNormalForm g) (most : t .cycles �
           cycles = refl;
           digits = λ k c h b.
               let e = sheet-bit (x .0) k c h b in
-              let y = x .1 .told k (omega (arith, h .1)) c b in
+              let y = x .1 k (omega (arith, h .1)) c b in
               (λ on. y .1 (sym e ∙ on), λ true-there. e ∙ y .0 true-there);
         },
       )

@@ -19,7 +19,7 @@ use Rattle.sheet_file.specs.Sheet.{rowLane, activationOf, parseSheet}
 use Rattle.sheet_file.specs.Written.{rowsOf, writtenSheet}
 use Rattle.sheet_file.proofs.Sheets.{sheet-in-range}
 use Rattle.normal_form.specs.Form.{InNormalForm}
-use Rattle.truth.specs.Truth.{laneIn}
+use Rattle.lanes.specs.Truth.{laneIn}
 use Rattle.sheet_maker.specs.Made.{IsMade}
 use Rattle.sheet_maker.proofs.Sheets.{rows-by-place}
 

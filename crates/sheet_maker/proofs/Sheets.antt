@@ -25,8 +25,8 @@ use Rattle.normal_form.specs.Form.{InNormalForm}
 use Rattle.normal_form.specs.Numbering.{normalForm}
 use Rattle.normal_form.proofs.Ranges.{form-normal}
 use Rattle.normal_form.proofs.Demand.{satisfied-alike}
-use Rattle.truth.specs.Truth.{laneIn, TrueIn, TrueAt, Filled}
-use Rattle.row_lanes.proofs.Passes.{shown-bit}
+use Rattle.lanes.specs.Truth.{laneIn, TrueIn, TrueAt, Filled}
+use Rattle.lanes.proofs.Shown.{shown-bit}
 use Rattle.monitors.specs.Sheet.{activatorAt, IsRow}
 use Rattle.sheet_maker.specs.Made.{SatisfiedIn, Satisfied, IsMade}
 

@@ -13,7 +13,7 @@ use Rattle.tables.specs.declared.trace.Trace.{Trace}
 use Rattle.meaning.specs.Reading.{classical}
 use Rattle.meaning.specs.Trace.{unrolled}
 use Rattle.meaning.specs.Satisfaction.{Satisfies}
-use Rattle.truth.specs.Truth.{TrueAt}
+use Rattle.lanes.specs.Truth.{TrueAt}
 use Rattle.judging.specs.Verdict.{IsKept}
 use Rattle.monitors.specs.Sheet.{activatorAt, IsRow}
 

@@ -1,2 +1,3 @@
 // The truth of each row of a normal form at each cycle of a recording.
 pub mod fill;
+pub mod open;

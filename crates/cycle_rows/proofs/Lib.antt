@@ -1,0 +1,7 @@
+pub mod ByKind
+pub mod Steps
+pub mod Turns
+pub mod Order
+pub mod RowFrom
+pub mod Columns
+pub mod Only

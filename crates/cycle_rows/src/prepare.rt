@@ -1,0 +1,168 @@
+// The steps of a normal form: each row with the cells that it reads, and its table.
+use tables::row::BinaryKind;
+use tables::row::ConstantKind;
+use tables::row::NormalForm;
+use tables::row::Row;
+use tables::row::SignalKind;
+use tables::row::UnaryKind;
+ghost use mathlib.Core.Path.{_≡_};
+ghost use Prim.Native.Nat.{ℕ, _≤_, _<_};
+ghost use lib.ListN.{length};
+ghost use Rattle.meaning.specs.Rows.{Each, EachSignal, positive};
+ghost use Rattle.meaning.specs.Pattern.{binaryPattern, constantBit, left, patternOf, right, signalSign, signedBit, unaryLeft, unaryPattern};
+ghost use Rattle.normal_form.specs.Form.{InNormalForm};
+ghost use Rattle.cycle_rows.specs.Cycle.{patternFrom};
+ghost use Rattle.cycle_rows.specs.Steps.{cellOf, isNext, stepBit, StepFor, StepsOf};
+ghost use Rattle.tables.specs.declared.row.Row.{Row as AnyRow};
+
+pub struct Steps {
+    pub order: [u8; 512],
+    pub truth: [bool; 1024],
+}
+
+fn constant(kind: ConstantKind) -> bool
+    ensures answer { λ r. ⌜ r ≡ constantBit kind ⌝ }
+{
+    match kind {
+        ConstantKind::True => true,
+        ConstantKind::False => false,
+    }
+}
+
+fn signal(kind: SignalKind, on: bool) -> bool
+    ensures answer { λ r. ⌜ r ≡ signedBit (signalSign kind) on ⌝ }
+{
+    match kind {
+        SignalKind::Sig => on,
+        SignalKind::Nsig => !on,
+    }
+}
+
+// A row with one operand: always goes on while the operand holds, and ever until it does.
+fn unary(kind: UnaryKind, a: bool, own: bool) -> bool
+    ensures answer { λ r. ⌜ r ≡ patternFrom (unaryPattern kind) (unaryLeft kind)
+        (signedBit (positive kind) a) (signedBit (positive kind) a) own ⌝ }
+{
+    match kind {
+        UnaryKind::Not => !a,
+        UnaryKind::Next => a,
+        UnaryKind::Always => a & own,
+        UnaryKind::Ever => a | own,
+    }
+}
+
+fn binary(kind: BinaryKind, a: bool, b: bool, own: bool) -> bool
+    ensures answer { λ r. ⌜ r ≡ patternFrom (binaryPattern kind) a b b own ⌝ }
+{
+    match kind {
+        BinaryKind::And => a & b,
+        BinaryKind::Or => a | b,
+        BinaryKind::Weak => b | (a & own),
+        BinaryKind::Until => b | (a & own),
+        BinaryKind::Release => b & (a | own),
+        BinaryKind::Srelease => b & (a | own),
+    }
+}
+
+// A row in a cycle, from its operands and from itself one cycle on.
+fn step_bit(row: Row, a: bool, b: bool, own: bool) -> bool
+    ensures answer { λ r. ⌜ r ≡ stepBit row a b own ⌝ }
+{
+    match row {
+        Row::Constant(kind) => constant(kind),
+        Row::Signal(kind, _) => signal(kind, b),
+        Row::Unary(kind, _) => unary(kind, b, own),
+        Row::Binary(kind, _, _) => binary(kind, a, b, own),
+    }
+}
+
+fn first_cell(row: Row) -> u8
+    requires { ⌜ Each (λ a. (1 ≤ a) × (a ≤ 128)) row ⌝ }
+    ensures cell { λ r. ⌜ r ≡ cellOf (left row) ⌝ }
+{
+    match row {
+        Row::Constant(_) => 0,
+        Row::Signal(_, _) => 0,
+        Row::Unary(_, _) => 0,
+        Row::Binary(_, a, _) => 31 + a,
+    }
+}
+
+fn second_cell(row: Row) -> u8
+    requires { ⌜ Each (λ a. (1 ≤ a) × (a ≤ 128)) row × EachSignal (λ s. (1 ≤ s) × (s ≤ 32)) row ⌝ }
+    ensures cell { λ r. ⌜ r ≡ cellOf (right row) ⌝ }
+{
+    match row {
+        Row::Constant(_) => 0,
+        Row::Signal(_, s) => s - 1,
+        Row::Unary(_, a) => 31 + a,
+        Row::Binary(_, _, b) => 31 + b,
+    }
+}
+
+// Step i: row `number`, which is `row`. The other steps stay.
+fn put_step(order: &mut [u8; 512], truth: &mut [bool; 1024], i: usize, number: u8, row: Row)
+    requires { ⌜ (length (now order) ≡ 512) × (length (now truth) ≡ 1024) × (i < 128) × (1 ≤ number) × (number ≤ 128)
+        × Each (λ a. (1 ≤ a) × (a ≤ 128)) row × EachSignal (λ s. (1 ≤ s) × (s ≤ 32)) row ⌝ }
+    ensures sizes { λ r. ⌜ (length (now (order .exit)) ≡ 512) × (length (now (truth .exit)) ≡ 1024) ⌝ }
+    ensures put { λ r. ⌜ StepFor (now (order .exit)) (now (truth .exit)) i number row ⌝ }
+    ensures others { λ r. ⌜ ((j k : ℕ) (other : AnyRow) → (j ≡ i → ⊥) → StepFor (now (order .entry)) (now (truth .entry)) j k other
+        → StepFor (now (order .exit)) (now (truth .exit)) j k other) ⌝ }
+{
+    order[4 * i] = 31 + number;
+    order[4 * i + 1] = first_cell(row);
+    order[4 * i + 2] = second_cell(row);
+    let mut j = 0;
+    while j < 8 {
+        truth[8 * i + j] = step_bit(row, j % 2 == 1, j / 2 % 2 == 1, j / 4 == 1);
+        j += 1;
+    }
+}
+
+fn is_next(row: Row) -> bool
+    ensures answer { λ r. ⌜ r ≡ isNext (patternOf row) ⌝ }
+{
+    match row {
+        Row::Constant(_) => false,
+        Row::Signal(_, _) => false,
+        Row::Unary(kind, _) => match kind {
+            UnaryKind::Not => false,
+            UnaryKind::Next => true,
+            UnaryKind::Always => false,
+            UnaryKind::Ever => false,
+        },
+        Row::Binary(_, _, _) => false,
+    }
+}
+
+// In place, `next` has to read its operand before that is filled, so these rows come first, from the last; then all others in order.
+pub fn prepare(form: NormalForm) -> Steps
+    requires { ⌜ InNormalForm form ⌝ }
+    ensures steps { λ r. ⌜ StepsOf form (r .order) (r .truth) ⌝ }
+{
+    let rows = form.rows as usize;
+    let mut order = [0; 512];
+    let mut truth = [false; 1024];
+    let mut i = 0;
+    let mut k = rows;
+    while k > 0 {
+        let number = k as u8;
+        k -= 1;
+        let place = form.places[k];
+        let row = place.row;
+        if is_next(row) {
+            put_step(&mut order, &mut truth, i, number, row);
+            i += 1;
+        }
+    }
+    while k < rows {
+        let place = form.places[k];
+        let row = place.row;
+        k += 1;
+        if !is_next(row) {
+            put_step(&mut order, &mut truth, i, k as u8, row);
+            i += 1;
+        }
+    }
+    Steps { order, truth }
+}

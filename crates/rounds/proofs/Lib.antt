@@ -1,0 +1,12 @@
+pub mod LassoBits
+pub mod Operands
+pub mod OneRow
+pub mod OneRound
+pub mod NextRound
+pub mod History
+pub mod Start
+pub mod Spreading
+pub mod Words
+pub mod Signals
+pub mod Back
+pub mod Loops
