@@ -54,6 +54,31 @@ for kind in ('true', 'false', 'sig 1', 'nsig 1', 'not 1', 'next 1', 'always 1', 
             if (r, t, False) not in pairs:
                 judged(r, t)
 
+# rows that wait for each other round after round of a loop (02, request 5). Start values set once are wrong of the first, two rounds
+# whatever the rule of the second and third; the chains need 32 rounds and 64, which is the most.
+def chain(*words):
+    return [f'{word} {k}' for k, word in enumerate(words, 1)]
+
+
+for name, rows, cycles, loop, verdict in (
+        ('always-ever', ['sig 1', *chain('ever', 'always')], '1 0', 0, 'holds'),
+        ('next-next-next', ['sig 1', *chain('next', 'next', 'next')], '1', 0, 'holds'),
+        ('ever-until', ['sig 1', 'ever 1', 'until 2 1'], '0 1 0', 0, 'holds'),
+        ('always-ever', ['sig 1', *chain('ever', 'always')], '1 0', 1, 'breaks'),
+        ('ever-always', ['sig 1', *chain('always', 'ever')], '0 1', 1, 'holds'),
+        ('ever-always', ['sig 1', *chain('always', 'ever')], '1 0', 0, 'breaks'),
+        ('next-next-next', ['sig 1', *chain('next', 'next', 'next')], '0 1', 1, 'holds'),
+        ('next-next-next', ['sig 1', *chain('next', 'next', 'next')], '1 1 0', 1, 'holds'),
+        ('ever-63', ['sig 1', *chain(*['ever'] * 63)], '1 0', 0, 'holds'),
+        ('ever-63', ['sig 1', *chain(*['ever'] * 63)], '1 0', 1, 'holds'),
+        ('ever-63', ['sig 1', *chain(*['ever'] * 63)], '0 0', 1, 'breaks'),
+        ('always-ever-63', ['sig 1', *chain(*(['ever', 'always'] * 32)[:63])], '0 1 0', 1, 'holds'),
+        ('always-ever-63', ['sig 1', *chain(*(['ever', 'always'] * 32)[:63])], '0 1 0', 2, 'breaks'),
+        ('next-63', ['sig 1', *chain(*['next'] * 63)], '0 1', 1, 'holds'),
+        ('next-63', ['sig 1', *chain(*['next'] * 63)], '1 0', 0, 'breaks'),
+        ('releases', ['sig 1', 'ever 1', 'release 1 2', 'srelease 1 3', 'weak 4 1'], '1 0', 0, 'holds')):
+    judged(rule('round-' + name, *rows, signals=1), take(cycles, loop), verdict)
+
 # a loop checked once: the row is asked at the last cycle, and what decides stands at the loop's first, which comes next
 judged_late = [('always', 'always 1'), ('ever', 'ever 2'), ('until', 'until 1 2'), ('weak', 'weak 1 2'), ('release', 'release 1 2'),
                ('srelease', 'srelease 1 2'), ('next', 'next 2')]
