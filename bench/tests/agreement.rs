@@ -1,6 +1,6 @@
 // The plain-Rust version held to the second implementation and to the library, on the calls by which these are held together
-// (`../rust/compare`): the papers' cases, all small rules and takes, random ones, valid and damaged, runs, and circuits.
-use compare::{all_small, by_proved, by_second, papers_cases, random_calls, same, Answer, Call, Outcome, Service, Tally};
+// (`../rust/compare`): the papers' cases, all small rules and takes, random ones, valid and damaged, runs, circuits, and nested rows.
+use compare::{all_small, by_proved, by_second, nested_calls, papers_cases, random_calls, same, Answer, Call, Outcome, Service, Tally};
 use plain::{checking, circuits, judging, making, monitors, normal, reading, rule, run, sheets, take};
 
 fn refused(reading::Refusal { reason, file, line }: reading::Refusal) -> Answer {
@@ -88,11 +88,12 @@ fn all_small_rules_and_takes() {
 #[test]
 fn random_files() {
     let mut tally = Tally::default();
-    random_calls(7, 1_500, &mut |call| {
+    let mut make = |call: &Call| {
         tally.count(call.service, &alike(call)?);
         Ok(())
-    })
-    .unwrap();
+    };
+    random_calls(7, 1_500, &mut make).unwrap();
+    nested_calls(7, 1_500, &mut make).unwrap();
     println!("{tally}");
     assert_eq!(tally.faults(), [""; 0], "every answer is given");
 }

@@ -89,9 +89,16 @@ fn random_operation(random: &mut Random, own: usize, chained: bool, unary: &[&st
     }
 }
 
-/// A random take, open once in two. In some, each cycle is drawn anew; in some, most cycles repeat the one before; in some, all are alike
-/// but for a few, so that much depends on one cycle.
+/// A random take, open once in two.
 pub fn random_take(random: &mut Random, size: Size) -> Vec<u8> {
+    let cycles = take_cycles(random, size);
+    let start = random_cycle(random, size.cycles).to_string();
+    take(if random.once_in(2) { "none" } else { &start }, &cycles)
+}
+
+/// The cycles of a random take. In some, each cycle is drawn anew; in some, most cycles repeat the one before; in some, all are alike but
+/// for a few, so that much depends on one cycle.
+pub fn take_cycles(random: &mut Random, size: Size) -> Vec<String> {
     let (ones, style) = (random.between(1, 7), random.below(3));
     let mut cycles = vec![random.digits(size.signals, ones)];
     while cycles.len() < size.cycles {
@@ -102,8 +109,7 @@ pub fn random_take(random: &mut Random, size: Size) -> Vec<u8> {
         let cycle = random_cycle(random, size.cycles);
         cycles[cycle] = random.digits(size.signals, ones);
     }
-    let start = random_cycle(random, size.cycles).to_string();
-    take(if random.once_in(2) { "none" } else { &start }, &cycles)
+    cycles
 }
 
 /// Any cycle, or one beside a multiple of 64, counted from the front or from the back: there words of bits may end.

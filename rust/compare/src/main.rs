@@ -1,5 +1,5 @@
-//! Holds the second implementation to the proved library: on the papers' cases, on all small rules and takes, on runs, on circuits, and on
-//! random calls of every service.
+//! Holds the second implementation to the proved library: on the papers' cases, on all small rules and takes, on runs, on circuits, on
+//! random calls of every service, and on rules with many rows on one branch that look ahead.
 //!
 //!     compare [--seed N] [--runs N] [--programs FOLDER]
 //!
@@ -7,7 +7,7 @@
 //! same. Normal forms and sheets must be as long as the library says beforehand, and refused with 10 exactly where less is lent. The circuits
 //! of random rules, as the library writes and simulates them, must give what its steps give. At the first difference the inputs are printed,
 //! and the program fails. It also fails where a service never gave one of its possible answers, or never showed what it does with a padded
-//! number: then the calls did not try everything.
+//! number or with such a rule on a looped take: then the calls did not try everything.
 //!
 //! With `--programs` it runs the programs in the folder on the files of the random calls instead, and holds what they print to the second
 //! implementation.
@@ -15,8 +15,8 @@
 #![forbid(unsafe_code)]
 
 use compare::{
-    all_small, by_proved, by_second, by_words, hold_programs, hold_to_length, hold_to_steps, papers_cases,
-    random_calls, same, Call, Service, Tally,
+    all_small, by_proved, by_second, by_words, hold_programs, hold_to_length, hold_to_steps, nested_calls,
+    papers_cases, random_calls, same, Call, Service, Tally,
 };
 use std::path::PathBuf;
 use std::process::ExitCode;
@@ -65,6 +65,7 @@ fn compare(options: &Options) -> Result<Tally, String> {
     };
     all_small(&mut make)?;
     random_calls(options.seed, options.runs, &mut make)?;
+    nested_calls(options.seed, options.runs / 2, &mut make)?;
     Ok(tally)
 }
 

@@ -1,6 +1,8 @@
-//! How often each service gave each answer and what its calls showed of padded numbers; what is possible, and what of that never came.
+//! How often each service gave each answer and what its calls showed of padded numbers and of nested rows; what is possible, and what of
+//! that never came.
 
 use crate::call::{Answer, Outcome, Service};
+use crate::nesting::{nested, Nested};
 use crate::shown::{shown, Shown};
 use std::collections::BTreeMap;
 use std::fmt;
@@ -12,11 +14,12 @@ pub enum Kind {
     Refused(u8, u8),
 }
 
-/// The counts: every call by its answer; and what calls showed of padded numbers, none or more than one thing each.
+/// The counts: every call by its answer; and what calls showed of padded numbers and of nested rows, none or more than one thing each.
 #[derive(Default)]
 pub struct Tally {
     answers: BTreeMap<(Service, Kind), u64>,
     padding: BTreeMap<(Service, Shown), u64>,
+    nesting: BTreeMap<(Service, Nested), u64>,
 }
 
 const VERDICTS: &[&str] = &["holds", "breaks", "kept", "broken", "open"];
@@ -123,8 +126,14 @@ impl Tally {
     /// Counts an outcome.
     pub fn count(&mut self, service: Service, outcome: &Outcome) {
         let kind = kind(service, outcome);
-        for shown in shown(service, outcome, matches!(kind, Kind::Said(_))) {
+        let answered = matches!(kind, Kind::Said(_));
+        for shown in shown(service, outcome, answered) {
             *self.padding.entry((service, shown)).or_default() += 1;
+        }
+        if answered {
+            for nested in nested(service, outcome) {
+                *self.nesting.entry((service, nested)).or_default() += 1;
+            }
         }
         *self.answers.entry((service, kind)).or_default() += 1;
     }
@@ -145,6 +154,7 @@ impl Tally {
         for service in Service::ALL {
             faults.extend(faults_of(&self.answers, service, &possible(service), "answer"));
             faults.extend(faults_of(&self.padding, service, &showable(service), "show"));
+            faults.extend(faults_of(&self.nesting, service, &nestable(service), "show"));
         }
         faults
     }
@@ -153,6 +163,11 @@ impl Tally {
 /// What calls of a service can show of padded numbers.
 fn showable(service: Service) -> Vec<Shown> {
     Shown::ALL.into_iter().filter(|shown| shown.can_be_of(service)).collect()
+}
+
+/// What calls of a service can show of nested rows.
+fn nestable(service: Service) -> Vec<Nested> {
+    Nested::ALL.into_iter().filter(|nested| nested.can_be_of(service)).collect()
 }
 
 fn get<T: Ord + Clone>(counts: &BTreeMap<(Service, T), u64>, service: Service, thing: &T) -> u64 {
@@ -210,7 +225,8 @@ impl fmt::Display for Tally {
         let words = WORDS.iter().map(|word| Kind::Said(word.to_string()));
         let refusals = [RULE, TAKE, SHEET, CALL].concat().into_iter().map(|(number, file)| Kind::Refused(number, file));
         lines(f, &self.answers, &words.chain(refusals).collect::<Vec<_>>(), possible)?;
-        lines(f, &self.padding, &Shown::ALL, showable)
+        lines(f, &self.padding, &Shown::ALL, showable)?;
+        lines(f, &self.nesting, &Nested::ALL, nestable)
     }
 }
 

@@ -165,7 +165,7 @@ fn wrong_step(random: &mut Random, call: &Call) -> Call {
 
 /// The sheet with one to three rows changed in one of three ways: a digit turned; the last digit set, which is felt in the next
 /// round; all digits cleared, of rows that are not the root's.
-fn with_digits_changed(random: &mut Random, sheet: &[u8]) -> Vec<u8> {
+pub fn with_digits_changed(random: &mut Random, sheet: &[u8]) -> Vec<u8> {
     let mut lines: Vec<Vec<u8>> = sheet.split_inclusive(|byte| *byte == b'\n').map(<[u8]>::to_vec).collect();
     let (first, root) = (3, lines.len() - 1);
     let way = random.below(if first < root { 3 } else { 2 });
@@ -192,6 +192,6 @@ pub fn written(call: &Call) -> Option<Vec<u8>> {
 }
 
 /// The rows of a valid rule's normal form.
-fn rows(rule: &[u8]) -> usize {
+pub fn rows(rule: &[u8]) -> usize {
     second::rows(rule).expect("the rule is valid")
 }
