@@ -1,6 +1,7 @@
 //! Every service of the library once more in plain Rust, as one would write it without thought for speed or proof: lists of rows, a
 //! byte for each truth value, texts put together by formatting. Measured beside the library by the program `speed`.
 
+pub mod by_cycle;
 pub mod checking;
 pub mod circuits;
 pub mod judging;

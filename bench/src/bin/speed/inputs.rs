@@ -137,9 +137,14 @@ fn rule_rows(rows: usize) -> Vec<String> {
     table
 }
 
-fn rule_text(rows: &[String]) -> String {
+/// The rule file of these rows.
+pub fn rule_of(signals: usize, rows: &[String]) -> String {
     let lines: String = (1..).zip(rows).map(|(k, row)| format!("r{k}={row}\n")).collect();
-    let text = format!("format=1\nsignals={SIGNALS}\nrows={}\n{lines}", rows.len());
+    format!("format=1\nsignals={signals}\nrows={}\n{lines}", rows.len())
+}
+
+fn rule_text(rows: &[String]) -> String {
+    let text = rule_of(SIGNALS, rows);
     let form = rule::normal(&rule::read_rule(text.as_bytes()).unwrap().rows, false);
     assert_eq!(form.len(), 2 * rows.len() - 3);
     text
@@ -147,21 +152,26 @@ fn rule_text(rows: &[String]) -> String {
 
 /// A digit for each signal in each cycle: most signals are mostly on, every fourth mostly off.
 fn take_cycles(count: usize) -> Vec<String> {
-    let mut state = 1u64;
-    let mut digit = |s: usize| {
-        state = state.wrapping_mul(6364136223846793005).wrapping_add(1442695040888963407);
-        if (state >> 33) % 100 < if s.is_multiple_of(4) { 15 } else { 85 } {
-            '1'
-        } else {
-            '0'
-        }
-    };
+    let mut random = Random(1);
+    let mut digit = |s: usize| if random.below(100) < if s.is_multiple_of(4) { 15 } else { 85 } { '1' } else { '0' };
     (0..count).map(|_| (0..SIGNALS).map(&mut digit).collect()).collect()
 }
 
-fn take_text(cycles: &[String], start: &str) -> Vec<u8> {
+/// The take file of these cycles; `start` is the value of its loop line.
+pub fn take_text(cycles: &[String], start: &str) -> Vec<u8> {
     let lines: String = cycles.iter().enumerate().map(|(i, digits)| format!("c{i}={digits}\n")).collect();
-    format!("format=1\nsignals={SIGNALS}\ncycles={}\nloop={start}\n{lines}", cycles.len()).into_bytes()
+    format!("format=1\nsignals={}\ncycles={}\nloop={start}\n{lines}", cycles[0].len(), cycles.len()).into_bytes()
+}
+
+/// Numbers without pattern, the same from the same seed.
+pub struct Random(pub u64);
+
+impl Random {
+    /// A number from 0 up to but without `end`.
+    pub fn below(&mut self, end: usize) -> usize {
+        self.0 = self.0.wrapping_mul(6364136223846793005).wrapping_add(1442695040888963407);
+        (self.0 >> 33) as usize % end
+    }
 }
 
 /// The file with the numbers of its values in five digits.

@@ -4,10 +4,12 @@
 //!
 //!     speed               times, at full size and at smaller ones
 //!     speed count         instructions at full size, by callgrind
+//!     speed rounds        times of looped judging, by the rounds that it needs cycle by cycle
 //!     speed write FOLDER  writes the rule, the takes, the sheet, these padded, the runs and the circuit of full size into a folder
 mod agreement;
 mod counting;
 mod inputs;
+mod rounds;
 mod services;
 mod tables;
 mod timing;
@@ -90,8 +92,9 @@ fn main() {
     match words.iter().map(String::as_str).collect::<Vec<_>>()[..] {
         [] => times(),
         ["count"] => count(),
+        ["rounds"] => rounds::print(),
         ["calls", ..] => calls(&words[1..]),
         ["write", folder] => write(folder).expect("a folder that is there"),
-        _ => panic!("speed [count | write FOLDER]"),
+        _ => panic!("speed [count | rounds | write FOLDER]"),
     }
 }

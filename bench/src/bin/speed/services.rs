@@ -1,6 +1,6 @@
 //! The services, and each implementation called alike: the answer as one number, as the library gives it in C.
 use crate::inputs::{Inputs, RULE_A};
-use plain::{checking, circuits, judging, making, monitors, normal, reading, rule, run, sheets, take};
+use plain::{by_cycle, checking, circuits, judging, making, monitors, normal, reading, rule, run, sheets, take};
 
 #[derive(Clone, Copy, Debug, PartialEq)]
 pub enum Service {
@@ -13,6 +13,7 @@ pub enum Service {
     Normal,
     NormalLength,
     JudgeLooped,
+    JudgeByCycle,
     JudgeOpen,
     Step,
     MakeSheet,
@@ -31,7 +32,7 @@ pub enum Service {
 use Service::*;
 
 impl Service {
-    pub const ALL: [Service; 23] = [
+    pub const ALL: [Service; 24] = [
         ReadRule,
         ReadTake,
         ReadSheet,
@@ -41,6 +42,7 @@ impl Service {
         Normal,
         NormalLength,
         JudgeLooped,
+        JudgeByCycle,
         JudgeOpen,
         Step,
         MakeSheet,
@@ -68,6 +70,7 @@ impl Service {
             Normal => "normal form",
             NormalLength => "length of the normal form",
             JudgeLooped => "judge, looped",
+            JudgeByCycle => "judge, looped, same schedule",
             JudgeOpen => "judge, open",
             Step => "step",
             MakeSheet => "make a sheet",
@@ -109,7 +112,7 @@ impl Service {
             ReadRule | ReadTake | ReadSheet | ReadPaddedRule | ReadPaddedTake | ReadPaddedSheet => None,
             FirstCycle | MiddleCycle | LastCycle | RunVerdict | CircuitOfA => None,
             Normal | NormalLength | Step | RunBegin | Circuit => Some(Call { service: ReadRule, only_read: false }),
-            JudgeLooped | JudgeOpen | MakeSheet | SheetLength | CheckSheet | Simulate | SimulateOfA => {
+            JudgeLooped | JudgeByCycle | JudgeOpen | MakeSheet | SheetLength | CheckSheet | Simulate | SimulateOfA => {
                 Some(Call { service: self, only_read: true })
             }
         }
@@ -136,8 +139,13 @@ impl Implementation {
     pub const ALL: [Implementation; 4] =
         [Implementation::Proved, Implementation::Plain, Implementation::Second, Implementation::BitParallel];
 
+    /// Judging by cycle is the library's way to judge looped takes, and plain Rust's second.
     pub fn offers(self, service: Service) -> bool {
-        self != Implementation::BitParallel || matches!(service, JudgeLooped | JudgeOpen)
+        match self {
+            Implementation::Proved | Implementation::Plain => true,
+            Implementation::Second => service != JudgeByCycle,
+            Implementation::BitParallel => matches!(service, JudgeLooped | JudgeOpen),
+        }
     }
 
     /// Makes the call. What is written stands at the front of `out`, and the answer is its length; or the run with a cycle more, which is
@@ -186,7 +194,7 @@ fn proved(call: Call, rule: &[u8], given: &Inputs, out: &mut [u8]) -> u64 {
         ReadPaddedSheet => c::read_sheet(&given.padded_sheet).map(read),
         Normal => c::normal(rule, false, out).map(length),
         NormalLength => c::normal_length(rule, false).map(length),
-        JudgeLooped => c::judge_looped(rule, &given.looped).map(verdict),
+        JudgeLooped | JudgeByCycle => c::judge_looped(rule, &given.looped).map(verdict),
         JudgeOpen => c::judge_open(rule, &given.open).map(verdict),
         Step => c::step(rule, &given.pendings, &given.activators, &given.signals, out).map(length),
         MakeSheet => c::make_sheet(rule, &given.looped, out).map(|made| made.map_or(0, length)),
@@ -229,6 +237,7 @@ fn plain(call: Call, rule: &[u8], given: &Inputs, out: &mut Vec<u8>) -> u64 {
         Normal => normal::normal_file(rule, false).map(put),
         NormalLength => normal::normal_length(rule, false).map(length),
         JudgeLooped => judging::judge_files(rule, &given.looped, true).map(verdict),
+        JudgeByCycle => by_cycle::judge_files(rule, &given.looped).map(verdict),
         JudgeOpen => judging::judge_files(rule, &given.open, false).map(verdict),
         Step => monitors::step(rule, &given.pendings, &given.activators, &given.signals, out).map(length),
         MakeSheet => making::make_files(rule, &given.looped).map(|made| made.map_or(0, |text| put(text.into_bytes()))),
@@ -270,7 +279,7 @@ fn second(call: Call, rule: &[u8], given: &Inputs, out: &mut [u8]) -> u64 {
         ReadPaddedSheet => second::read_sheet(&given.padded_sheet).map(read),
         Normal => second::normal(rule, false, out).map(length),
         NormalLength => second::normal_length(rule, false).map(length),
-        JudgeLooped => second::judge_looped(rule, &given.looped).map(by_number),
+        JudgeLooped | JudgeByCycle => second::judge_looped(rule, &given.looped).map(by_number),
         JudgeOpen => second::judge_open(rule, &given.open).map(by_number),
         Step => second::step(rule, &given.pendings, &given.activators, &given.signals, out).map(length),
         MakeSheet => second::make_sheet(rule, &given.looped, out).map(|made| made.map_or(0, length)),

@@ -56,7 +56,7 @@ impl<T> Figures<'_, T> {
     }
 }
 
-fn micro(us: f64) -> String {
+pub fn micro(us: f64) -> String {
     match us {
         _ if us < 10.0 => format!("{us:.2}"),
         _ if us < 1000.0 => format!("{us:.1}"),
@@ -74,11 +74,11 @@ fn list(figures: impl Iterator<Item = f64>, told: fn(f64) -> String) -> String {
     figures.map(told).collect::<Vec<_>>().join("; ")
 }
 
-fn print_line(cells: &[String]) {
+pub fn print_line(cells: &[String]) {
     println!("| {} |", cells.join(" | "));
 }
 
-fn print_head(columns: &[String]) {
+pub fn print_head(columns: &[String]) {
     print_line(columns);
     println!("|{}", "---|".repeat(columns.len()));
 }
