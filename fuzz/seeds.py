@@ -74,6 +74,22 @@ def long_pairs():
             yield [rule.encode(), f"format=1\nsignals=2\ncycles={count}\nloop={loop}\n{cycles}".encode()]
 
 
+def nested_pairs():
+    """Chains of rows that look ahead, on loops: whoever works out truth in rounds of the loop needs the more, the longer a chain is. Each
+    rule always holds, so that the sheet made shows the truth of all rows."""
+    chains = [["next {}"], ["always {}"], ["ever {}"], ["always {}", "ever {}"], ["next {}", "ever {}"]]
+    chains += [["until {} 1", "release 1 {}"], ["weak 1 {}", "srelease {} 1"], ["until {0} {0}", "next {}"]]
+    for words in chains:
+        for length in (2, 3, 9, 30):
+            rows = ["sig 1", *(words[n % len(words)].format(n) for n in range(1, length + 1))]
+            rows += ["true", f"or {length + 1} {length + 2}"]
+            lines = "".join(f"r{n}={row}\n" for n, row in enumerate(rows, 1))
+            rule = f"format=1\nsignals=1\nrows={len(rows)}\n{lines}"
+            for digits, loop in (("1", 0), ("10", 0), ("01", 1), ("01101", 2)):
+                cycles = "".join(f"c{n}={digit}\n" for n, digit in enumerate(digits))
+                yield [rule.encode(), f"format=1\nsignals=1\ncycles={len(digits)}\nloop={loop}\n{cycles}".encode()]
+
+
 def limits():
     """Rule, take and sheet with the most signals and the most cycles."""
     for signals, cycles in ((32, 1), (1, 256)):
@@ -171,7 +187,7 @@ def seeds():
     rules, takes, sheets = small(rules), small(takes), small(sheets)
     pairs = [*examples("rule.txt", "take.txt"), *([other, take] for other in rules), *([rule, other] for other in takes)]
     pairs += [*long_pairs(), *digit_more(), *(triple[:2] for triple in limits()), *all_padded(examples("rule.txt", "take.txt"))]
-    yield "judge", [join(*pair) for pair in [*pairs, [rule, take.ljust(65_537, b"\n")]]]
+    yield "judge", [join(*pair) for pair in [*pairs, *nested_pairs(), [rule, take.ljust(65_537, b"\n")]]]
     whole = [*examples("rule.txt", "take.txt", "sheet.txt"), [rule, take, sheet]]
     triples = [[*pair, sheet] for pair in pairs] + [[rule, take, other] for other in sheets] + list(limits())
     yield "check", [join(*triple) for triple in [*whole, *triples, *all_padded(whole)]]
