@@ -17,7 +17,7 @@ use Rattle.normal_form.specs.Form.{InNormalForm}
 use Rattle.normal_form.proofs.FormTables.{form-operands, row-signals}
 use Rattle.cycle_rows.specs.Cycle.{rowFrom}
 use Rattle.cycle_rows.specs.Cells.{signalCell, rowCell, FilledIn}
-use Rattle.cycle_rows.specs.Steps.{cellOf, caseOf, StepsOf}
+use Rattle.cycle_rows.specs.Steps.{caseIn, cellOf, caseOf, StepsOf}
 use Rattle.cycle_rows.proofs.RowFrom.{row-from-local, step-bit-from, cells-below, turn-before, turn-after}
 
 -- the case that step i finds, as the code has it
@@ -34,10 +34,6 @@ found-case false true false = refl
 found-case false false true = refl
 found-case false false false = refl
 
-pub byte-most : (b : Bool) → boolByte b ≤ 1
-byte-most true = omega arith
-byte-most false = omega arith
-
 -- the rows whose turn is before step i are filled; all other cells are as before
 module _ (g : NormalForm) (turn : ℕ → ℕ) (before : List Bool) where
   pub record FilledTo (i : ℕ) (cells : List Bool) : Type 0 where
@@ -50,7 +46,7 @@ module _ (g : NormalForm) (turn : ℕ → ℕ) (before : List Bool) where
   pub filled-none : FilledTo 0 before
   filled-none = record { size = refl; filled = λ k a b h. absurd (omega arith); ahead = λ k a b h. refl; signals = λ j h. refl; behind = λ j h. refl }
 
-module _ {g : NormalForm} (ok : InNormalForm g) {order : List ℕ} {truth : List Bool} (s : StepsOf g order truth) where
+module _ {g : NormalForm} (ok : InNormalForm g) {order truth : List ℕ} (s : StepsOf g order truth) where
   row-of : (k : ℕ) → 1 ≤ k → k ≤ g .rows → Each (λ a. (1 ≤ a) × (a < k)) (tableOf (g .places) k) × EachSignal (λ n. (1 ≤ n) × (n ≤ 32)) (tableOf (g .places) k)
   row-of k a b = (form-operands g ok k (omega arith), let e : suc (k - 1) ≡ k = omega arith in subst (λ m. EachSignal (λ n. (1 ≤ n) × (n ≤ 32)) (tableOf (g .places) m)) e (row-signals g ok (k - 1) (omega arith)))
 
@@ -128,7 +124,7 @@ module _ {g : NormalForm} (ok : InNormalForm g) {order : List ℕ} {truth : List
 
   -- what a step finds, looked up, is the row from the cells as they are
   step-told : (cells : List Bool) (i : ℕ) → i < g .rows
-      → getD truth (8 * i + foundCase order cells i) false ≡ rowFrom (signalCell cells) (rowCell cells) (rowCell cells) (tableOf (g .places) (s .rowAt i)) (s .rowAt i)
+      → caseIn (getD truth i 0) (foundCase order cells i) ≡ rowFrom (signalCell cells) (rowCell cells) (rowCell cells) (tableOf (g .places) (s .rowAt i)) (s .rowAt i)
   step-told cells i h =
       let p = s .step i h in
       let r = tableOf (g .places) (s .rowAt i) in
@@ -137,9 +133,9 @@ module _ {g : NormalForm} (ok : InNormalForm g) {order : List ℕ} {truth : List
       (p .told (getD cells (cellOf (left r)) false) (getD cells (cellOf (right r)) false) (rowCell cells (s .rowAt i)) ∙ step-bit-from cells r (s .rowAt i))
 
   pub filled-step : {before cells : List Bool} {i : ℕ} → length before ≡ 160 → i < g .rows → FilledTo g (s .turn) before i cells
-      → FilledTo g (s .turn) before (suc i) (set cells (getD order (4 * i) 0) (getD truth (8 * i + foundCase order cells i) false))
+      → FilledTo g (s .turn) before (suc i) (set cells (getD order (4 * i) 0) (caseIn (getD truth i 0) (foundCase order cells i)))
   filled-step {before} {cells} {i} sized h f =
-      let x = getD truth (8 * i + foundCase order cells i) false in
+      let x = caseIn (getD truth i 0) (foundCase order cells i) in
       subst (λ n. FilledTo g (s .turn) before (suc i) (set cells n x)) (sym (s .step i h .into)) (filled-more sized h f x (step-told cells i h))
 
   pub filled-all : {before cells : List Bool} {i : ℕ} → g .rows ≤ i → FilledTo g (s .turn) before i cells → FilledIn g before cells

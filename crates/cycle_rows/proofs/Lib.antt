@@ -1,4 +1,5 @@
 pub mod ByKind
+pub mod Cases
 pub mod Steps
 pub mod Turns
 pub mod Order

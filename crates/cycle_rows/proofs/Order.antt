@@ -29,30 +29,30 @@ abbrev pub others : NormalForm → ℕ → ℕ
 others g = count (otherAt (tableOf (g .places)))
 
 -- the rows that have P are put as steps
-pub record Stepped (g : NormalForm) (P : ℕ → Type 0) (order : List ℕ) (truth : List Bool) : Type 0 where
+pub record Stepped (g : NormalForm) (P : ℕ → Type 0) (order truth : List ℕ) : Type 0 where
   pub bytes : length order ≡ 512
-  pub bits : length truth ≡ 1024
+  pub bits : length truth ≡ 128
   pub steps : (k : ℕ) → 1 ≤ k → k ≤ g .rows → P k → StepFor order truth (formTurn g k) k (tableOf (g .places) k)
 
 -- the `next` rows above k are put: i steps
-pub record NextsTo (g : NormalForm) (k i : ℕ) (order : List ℕ) (truth : List Bool) : Type 0 where
+pub record NextsTo (g : NormalForm) (k i : ℕ) (order truth : List ℕ) : Type 0 where
   pub within : k ≤ g .rows
   pub counted : i + nexts g k ≡ nexts g (g .rows)
   pub stepped : Stepped g (λ m. (k < m) × (formNext g m ≡ true)) order truth
 
 -- all `next` rows are put, and the others up to k: i steps
-pub record OthersTo (g : NormalForm) (k i : ℕ) (order : List ℕ) (truth : List Bool) : Type 0 where
+pub record OthersTo (g : NormalForm) (k i : ℕ) (order truth : List ℕ) : Type 0 where
   pub within : k ≤ g .rows
   pub counted : i ≡ nexts g (g .rows) + others g k
   pub stepped : Stepped g (λ m. (formNext g m ≡ true) ⊎ (m ≤ k)) order truth
 
 -- ---- one more step
 
-abbrev pub OthersStay : List ℕ → List Bool → ℕ → List ℕ → List Bool → Type 0
+abbrev pub OthersStay : List ℕ → List ℕ → ℕ → List ℕ → List ℕ → Type 0
 OthersStay order truth i after told = (j m : ℕ) (r : Row) → (j ≡ i → ⊥) → StepFor order truth j m r → StepFor after told j m r
 
-module _ {g : NormalForm} {P : ℕ → Type 0} {order after : List ℕ} {truth told : List Bool} where
-  stepped-more : (k i : ℕ) (Q : ℕ → Type 0) → Stepped g P order truth → formTurn g k ≡ i → (length after ≡ 512) × (length told ≡ 1024)
+module _ {g : NormalForm} {P : ℕ → Type 0} {order after truth told : List ℕ} where
+  stepped-more : (k i : ℕ) (Q : ℕ → Type 0) → Stepped g P order truth → formTurn g k ≡ i → (length after ≡ 512) × (length told ≡ 128)
       → StepFor after told i k (tableOf (g .places) k) → OthersStay order truth i after told
       → ((m : ℕ) → 1 ≤ m → m ≤ g .rows → (m ≡ k → ⊥) → Q m → P m × (formTurn g m ≡ i → ⊥)) → Stepped g Q after told
   stepped-more k i Q s e sizes put stay old = record { bytes = sizes .0; bits = sizes .1; steps = λ m a b q. by m a b q (ℕ-discrete m k) }
@@ -61,14 +61,14 @@ module _ {g : NormalForm} {P : ℕ → Type 0} {order after : List ℕ} {truth t
       by m a b q (yes d) = subst (λ n. StepFor after told (formTurn g n) n (tableOf (g .places) n)) (sym d) (subst (λ j. StepFor after told j k (tableOf (g .places) k)) (sym e) put)
       by m a b q (no d) = let o = old m a b d q in stay (formTurn g m) m (tableOf (g .places) m) (o .1) (s .steps m a b (o .0))
 
-module _ {g : NormalForm} {P Q : ℕ → Type 0} {order : List ℕ} {truth : List Bool} where
+module _ {g : NormalForm} {P Q : ℕ → Type 0} {order truth : List ℕ} where
   stepped-same : Stepped g P order truth → ((m : ℕ) → 1 ≤ m → m ≤ g .rows → Q m → P m) → Stepped g Q order truth
   stepped-same s f = record { bytes = s .bytes; bits = s .bits; steps = λ m a b q. s .steps m a b (f m a b q) }
 
 -- ---- the `next` rows
 
-module _ {g : NormalForm} {order : List ℕ} {truth : List Bool} where
-  pub nexts-none : length order ≡ 512 → length truth ≡ 1024 → NextsTo g (g .rows) 0 order truth
+module _ {g : NormalForm} {order truth : List ℕ} where
+  pub nexts-none : length order ≡ 512 → length truth ≡ 128 → NextsTo g (g .rows) 0 order truth
   nexts-none a b = record { within = omega arith; counted = omega arith; stepped = record { bytes = a; bits = b; steps = λ k x y p. absurd (omega (arith, p .0)) } }
 
   -- the code counts down before it reads
@@ -92,7 +92,7 @@ module _ {g : NormalForm} {order : List ℕ} {truth : List Bool} where
       by m q (yes d) = on-and-off (q .1) (rw d e)
       by m q (no d) = let h = q .0 in (omega arith, q .1)
 
-  pub nexts-put : {k i : ℕ} {after : List ℕ} {told : List Bool} → NextsTo g (suc k) i order truth → formNext g (suc k) ≡ true → (length after ≡ 512) × (length told ≡ 1024)
+  pub nexts-put : {k i : ℕ} {after told : List ℕ} → NextsTo g (suc k) i order truth → formNext g (suc k) ≡ true → (length after ≡ 512) × (length told ≡ 128)
       → StepFor after told i (suc k) (tableOf (g .places) (suc k)) → OthersStay order truth i after told → NextsTo g k (suc i) after told
   nexts-put {k} {i} n e sizes put stay = record {
     within = omega (arith, n .within);
@@ -134,7 +134,7 @@ module _ {g : NormalForm} {order : List ℕ} {truth : List Bool} where
       by m (inl q) (no d) = inl q
       by m (inr q) (no d) = inr (omega arith)
 
-  pub others-put : {k i : ℕ} {after : List ℕ} {told : List Bool} → OthersTo g k i order truth → k < g .rows → formNext g (suc k) ≡ false → (length after ≡ 512) × (length told ≡ 1024)
+  pub others-put : {k i : ℕ} {after told : List ℕ} → OthersTo g k i order truth → k < g .rows → formNext g (suc k) ≡ false → (length after ≡ 512) × (length told ≡ 128)
       → StepFor after told i (suc k) (tableOf (g .places) (suc k)) → OthersStay order truth i after told → OthersTo g (suc k) (suc i) after told
   others-put {k} {i} n l e sizes put stay = record {
     within = l;
@@ -149,7 +149,7 @@ module _ {g : NormalForm} {order : List ℕ} {truth : List Bool} where
 
 -- ---- all rows
 
-module _ {g : NormalForm} (ok : InNormalForm g) {order : List ℕ} {truth : List Bool} {i : ℕ} (n : OthersTo g (g .rows) i order truth) where
+module _ {g : NormalForm} (ok : InNormalForm g) {order truth : List ℕ} {i : ℕ} (n : OthersTo g (g .rows) i order truth) where
   step-of : (k : ℕ) → 1 ≤ k → k ≤ g .rows → StepFor order truth (formTurn g k) k (tableOf (g .places) k)
   step-of k a b = n .stepped .steps k a b (inr b)
 

@@ -1,8 +1,9 @@
 -- The rows of a normal form as steps that fill a cycle in place, each by one look into a table. Assumes nothing.
-use Prim.Native.Nat.{ℕ, _+_, _-_, _*_, _≤_, _<_}
+use Prim.Native.Nat.{ℕ, _+_, _-_, _*_, _/_, _%_, _^_, _≤_, _<_}
 use mathlib.Core.Path.{_≡_}
 use mathlib.Core.Bool.{Bool, true, false}
 use mathlib.Core.List.{List}
+use lib.Dec.{eqb}
 use lib.ListN.{getD}
 use Rattle.tables.specs.Choice.{pick}
 use Rattle.tables.specs.declared.row.Row.{Row}
@@ -34,12 +35,16 @@ stepBit r a b x = patternFrom (patternOf r) (fromCell (left r) a) (fromCell (rig
 abbrev pub caseOf : Bool → Bool → Bool → ℕ
 caseOf a b x = pick a 1 0 + 2 * pick b 1 0 + 4 * pick x 1 0
 
--- step i fills row k, whose row is r: four bytes (its cell, those of its operands, one unused), and a table of eight cases
-pub record StepFor (order : List ℕ) (truth : List Bool) (i k : ℕ) (r : Row) : Type 0 where
+-- case m of a table: its bit m
+abbrev pub caseIn : ℕ → ℕ → Bool
+caseIn table m = eqb (table / 2 ^ m % 2) 1
+
+-- step i fills row k, whose row is r: four bytes (its cell, those of its operands, one unused), and a table of eight cases in one byte
+pub record StepFor (order truth : List ℕ) (i k : ℕ) (r : Row) : Type 0 where
   pub into : getD order (4 * i) 0 ≡ 31 + k
   pub first : getD order (4 * i + 1) 0 ≡ cellOf (left r)
   pub second : getD order (4 * i + 2) 0 ≡ cellOf (right r)
-  pub told : (a b x : Bool) → getD truth (8 * i + caseOf a b x) false ≡ stepBit r a b x
+  pub told : (a b x : Bool) → caseIn (getD truth i 0) (caseOf a b x) ≡ stepBit r a b x
 
 abbrev pub isNext : Pattern → Bool
 isNext now = false
@@ -55,7 +60,7 @@ InTurn turn k r (connective f) = Each (λ a. turn a < turn k) r
 InTurn turn k r (temporal f w) = Each (λ a. turn a < turn k) r
 
 -- the steps of a normal form: `rowAt` i is the row of step i, and `turn` k the step of row k
-pub record StepsOf (g : NormalForm) (order : List ℕ) (truth : List Bool) : Type 0 where
+pub record StepsOf (g : NormalForm) (order truth : List ℕ) : Type 0 where
   pub rowAt : ℕ → ℕ
   pub turn : ℕ → ℕ
   pub stepped : (i : ℕ) → i < g .rows → (1 ≤ rowAt i) × (rowAt i ≤ g .rows) × (turn (rowAt i) ≡ i)

@@ -8,9 +8,9 @@ ghost use Rattle.cycle_rows.specs.Steps.{StepsOf};
 
 pub mod prepare;
 
-// The rows of the cycle, in place: the cells hold its signals and the rows one cycle on, and then its rows. Nothing else is given, and no
-// branch depends on a row.
-pub fn fill_cycle(rows: usize, order: &[u8; 512], truth: &[bool; 1024], cells: &mut [bool; 160])
+// The rows of the cycle, in place: the cells hold its signals and the rows one cycle on, and then its rows. Beside the steps nothing
+// else is given, and no branch depends on a row.
+pub fn fill_cycle(rows: usize, order: &[u8; 512], truth: &[u8; 128], cells: &mut [bool; 160])
     requires { ⌜ ((g : NormalForm) × InNormalForm g × (g .rows ≡ rows) × StepsOf g (now order) (now truth)) ⌝ }
     ensures filled { λ r. ⌜ ((g : NormalForm) → InNormalForm g → g .rows ≡ rows → StepsOf g (now (order .entry)) (now (truth .entry))
         → FilledIn g (now (cells .entry)) (now (cells .exit))) ⌝ }
@@ -23,7 +23,7 @@ pub fn fill_cycle(rows: usize, order: &[u8; 512], truth: &[bool; 1024], cells: &
         let a = all[order[at + 1] as usize] as usize;
         let b = all[order[at + 2] as usize] as usize;
         let x = all[own] as usize;
-        all[own] = truth[8 * i + (a + 2 * b + 4 * x)];
+        all[own] = (truth[i] >> (a + 2 * b + 4 * x)) % 2 == 1;
         i += 1;
     }
 }

@@ -5,6 +5,7 @@ use tables::row::NormalForm;
 use tables::row::Row;
 use tables::row::SignalKind;
 use tables::row::UnaryKind;
+ghost use mathlib.Core.Bool.{Bool};
 ghost use mathlib.Core.Path.{_≡_};
 ghost use Prim.Native.Nat.{ℕ, _≤_, _<_};
 ghost use lib.ListN.{length};
@@ -12,12 +13,12 @@ ghost use Rattle.meaning.specs.Rows.{Each, EachSignal, positive};
 ghost use Rattle.meaning.specs.Pattern.{binaryPattern, constantBit, left, patternOf, right, signalSign, signedBit, unaryLeft, unaryPattern};
 ghost use Rattle.normal_form.specs.Form.{InNormalForm};
 ghost use Rattle.cycle_rows.specs.Cycle.{patternFrom};
-ghost use Rattle.cycle_rows.specs.Steps.{cellOf, isNext, stepBit, StepFor, StepsOf};
+ghost use Rattle.cycle_rows.specs.Steps.{caseIn, caseOf, cellOf, isNext, stepBit, StepFor, StepsOf};
 ghost use Rattle.tables.specs.declared.row.Row.{Row as AnyRow};
 
 pub struct Steps {
     pub order: [u8; 512],
-    pub truth: [bool; 1024],
+    pub truth: [u8; 128],
 }
 
 fn constant(kind: ConstantKind) -> bool
@@ -100,11 +101,25 @@ fn second_cell(row: Row) -> u8
     }
 }
 
+// The table of a row: bit m is the row in case m. One byte, so that a step waits for a shift and not for a look into memory.
+fn table(row: Row) -> u8
+    ensures cases { λ r. ⌜ ((a b x : Bool) → caseIn r (caseOf a b x) ≡ stepBit row a b x) ⌝ }
+{
+    let mut bits = 0u8;
+    let mut m = 8u8;
+    while m > 0 {
+        m -= 1;
+        let on = step_bit(row, m % 2 == 1, m / 2 % 2 == 1, m / 4 == 1);
+        bits = on as u8 + 2 * (bits % 128);
+    }
+    bits
+}
+
 // Step i: row `number`, which is `row`. The other steps stay.
-fn put_step(order: &mut [u8; 512], truth: &mut [bool; 1024], i: usize, number: u8, row: Row)
-    requires { ⌜ (length (now order) ≡ 512) × (length (now truth) ≡ 1024) × (i < 128) × (1 ≤ number) × (number ≤ 128)
+fn put_step(order: &mut [u8; 512], truth: &mut [u8; 128], i: usize, number: u8, row: Row)
+    requires { ⌜ (length (now order) ≡ 512) × (length (now truth) ≡ 128) × (i < 128) × (1 ≤ number) × (number ≤ 128)
         × Each (λ a. (1 ≤ a) × (a ≤ 128)) row × EachSignal (λ s. (1 ≤ s) × (s ≤ 32)) row ⌝ }
-    ensures sizes { λ r. ⌜ (length (now (order .exit)) ≡ 512) × (length (now (truth .exit)) ≡ 1024) ⌝ }
+    ensures sizes { λ r. ⌜ (length (now (order .exit)) ≡ 512) × (length (now (truth .exit)) ≡ 128) ⌝ }
     ensures put { λ r. ⌜ StepFor (now (order .exit)) (now (truth .exit)) i number row ⌝ }
     ensures others { λ r. ⌜ ((j k : ℕ) (other : AnyRow) → (j ≡ i → ⊥) → StepFor (now (order .entry)) (now (truth .entry)) j k other
         → StepFor (now (order .exit)) (now (truth .exit)) j k other) ⌝ }
@@ -112,11 +127,7 @@ fn put_step(order: &mut [u8; 512], truth: &mut [bool; 1024], i: usize, number: u
     order[4 * i] = 31 + number;
     order[4 * i + 1] = first_cell(row);
     order[4 * i + 2] = second_cell(row);
-    let mut j = 0;
-    while j < 8 {
-        truth[8 * i + j] = step_bit(row, j % 2 == 1, j / 2 % 2 == 1, j / 4 == 1);
-        j += 1;
-    }
+    truth[i] = table(row);
 }
 
 fn is_next(row: Row) -> bool
@@ -142,7 +153,7 @@ pub fn prepare(form: NormalForm) -> Steps
 {
     let rows = form.rows as usize;
     let mut order = [0; 512];
-    let mut truth = [false; 1024];
+    let mut truth = [0; 128];
     let mut i = 0;
     let mut k = rows;
     while k > 0 {

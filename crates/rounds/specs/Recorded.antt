@@ -1,5 +1,5 @@
--- The words that a round records, going down: word w of row k + 1 is at 128 * w + k, and its lowest bit is the cycle just filled.
--- Assumes nothing.
+-- The words that a round records, going down: word w of row k + 1 is at 128 * w + k, and the lowest bit
+-- of the word that has the cycle just filled is that cycle. Assumes nothing.
 use Prim.Native.Nat.{ℕ, suc, _+_, _-_, _*_, _≤_, _<_}
 use mathlib.Core.Path.{_≡_}
 use mathlib.Core.Bool.{Bool, false, _&&_}

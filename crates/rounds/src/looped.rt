@@ -9,7 +9,7 @@ ghost use Rattle.take_file.specs.Valid.{InRange};
 ghost use Rattle.lanes.specs.Truth.{Filled};
 ghost use Rattle.rounds.specs.Rounds.{ByCycle};
 
-// A lane for each row, as in `truth`, and how many rounds it took.
+// A lane for each row: lane k is that of row k + 1. And how many rounds it took.
 pub struct Looped {
     pub lanes: [Lane; 128],
     pub rounds: u8,
@@ -29,6 +29,7 @@ pub fn fill_looped(form: NormalForm, trace: Trace, start: u16) -> Looped
     let signals = trace.lanes;
     let mut digits = [false; 8192];
     crate::spread::spread(signals, form.signals as usize, last, &mut digits);
+    // Nothing is sure yet, so every row starts; from there the loop's cycle is filled once, which comes behind the last.
     let mut sure = [false; 128];
     let mut cells = [false; 160];
     between_rounds::restart(form, &sure, &mut cells);

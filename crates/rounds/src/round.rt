@@ -30,7 +30,7 @@ fn put_signals(digits: &[bool; 8192], cycle: usize, cells: &mut [bool; 160])
 pub fn fill_at(
     rows: usize,
     order: &[u8; 512],
-    truth: &[bool; 1024],
+    truth: &[u8; 128],
     digits: &[bool; 8192],
     cycle: usize,
     cells: &mut [bool; 160],
@@ -47,7 +47,7 @@ pub fn fill_at(
 pub fn go_back(
     rows: usize,
     order: &[u8; 512],
-    truth: &[bool; 1024],
+    truth: &[u8; 128],
     digits: &[bool; 8192],
     from: usize,
     to: usize,

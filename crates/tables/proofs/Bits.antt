@@ -53,7 +53,7 @@ module _ {f g : ℕ → Bool} {c : ℕ} (m : OneMore f g c) where
           let s : wordFrom n (suc k) f + 2 ^ (c - suc k) ≡ wordFrom n (suc k) g = ih (omega arith) in
           rw (z, x) (omega arith)
 
-word-bit : (n k : ℕ) (f : ℕ → Bool) (i : ℕ) → i < n → wordFrom n k f / 2 ^ i % 2 ≡ pick (f (k + i)) 1 0
+pub word-bit : (n k : ℕ) (f : ℕ → Bool) (i : ℕ) → i < n → wordFrom n k f / 2 ^ i % 2 ≡ pick (f (k + i)) 1 0
 unfolding wordFrom
 word-bit zero k f i h = absurd (omega arith)
 word-bit (suc n) k f zero h =

@@ -1,4 +1,4 @@
-// The lanes of all rows of a normal form over a recording. This is the one place where the truth of rows is computed.
+// The lanes of all rows of a normal form over a recording: the one function that all above have rows' truth from.
 use tables::row::NormalForm;
 use tables::trace::Ending;
 use tables::trace::Lane;
@@ -12,7 +12,7 @@ pub struct Truth {
     pub lanes: [Lane; 128],
 }
 
-// An open take is filled row by row, all cycles at once; a looped one cycle by cycle, all rows at once.
+// An open take is filled row by row, all cycles at once; a looped one cycle by cycle, all rows at each.
 pub fn fill(form: NormalForm, trace: Trace) -> Truth
     requires { ⌜ InNormalForm form × InRange trace ⌝ }
     ensures filled { λ r. ⌜ Filled form trace (r .lanes) ⌝ }

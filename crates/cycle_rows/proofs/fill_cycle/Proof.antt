@@ -6,7 +6,8 @@ use lib.ListN.{getD}
 use Rattle.tables.specs.declared.row.NormalForm.{NormalForm}
 use Rattle.normal_form.specs.Form.{InNormalForm}
 use Rattle.cycle_rows.specs.Steps.{StepsOf}
-use Rattle.cycle_rows.proofs.Columns.{FilledTo, filled-none, filled-step, filled-all, step-cells, byte-most}
+use Rattle.cycle_rows.proofs.Cases.{byte-most}
+use Rattle.cycle_rows.proofs.Columns.{FilledTo, filled-none, filled-step, filled-all, step-cells}
 use borrow.Author.Needs.{needs}
 use Rattle.cycle_rows.proofs.fill_cycle.Statement.{statement}
 use Rattle.cycle_rows.proofs.fill_cycle.Tie as tie
@@ -47,23 +48,26 @@ slice-read-b c = let p = c .before .before .before .before .before .before .befo
 slice-read-x : tie.Need-slice-read-x Inv-loop μ-loop
 slice-read-x c = let p = c .before .before .before .before .before .before .before .before .before .pre in let b = step-cells (p .1) (p .3) (c .before .before .before .before .before .before .before .loop .i) (omega (arith, p .2)) in let n = c .before .before .before .before .before .before .before .loop .inv (p .0) (p .1) (p .2) (p .3) .size ∙ c .before .before .before .before .before .before .before .before .all .given .0 .1 in omega (arith, b .0, n)
 
-mul-all-2 : tie.Need-mul-all-2 Inv-loop μ-loop
-mul-all-2 c = let bit : ℕ → Bool = λ j. getD (c .before .before .before .before .before .before .before .loop .all) (getD (c .before .before .before .before .before .before .before .before .before .args .order .now) j 0) false in let i = c .before .before .before .before .before .before .before .loop .i in omega (arith, byte-most (bit (4 * i + 2)))
+element-copy-out-all : tie.Need-element-copy-out-all Inv-loop μ-loop
+element-copy-out-all c = omega (arith, c .before .before .before .before .before .before .before .before .before .pre .1 .most-rows, c .before .before .before .before .before .before .before .before .before .pre .2)
+
+mul-all : tie.Need-mul-all Inv-loop μ-loop
+mul-all c = let bit : ℕ → Bool = λ j. getD (c .before .before .before .before .before .before .before .before .loop .all) (getD (c .before .before .before .before .before .before .before .before .before .before .args .order .now) j 0) false in let i = c .before .before .before .before .before .before .before .before .loop .i in omega (arith, byte-most (bit (4 * i + 2)))
 
 add-all : tie.Need-add-all Inv-loop μ-loop
-add-all c = let bit : ℕ → Bool = λ j. getD (c .before .before .before .before .before .before .before .loop .all) (getD (c .before .before .before .before .before .before .before .before .before .args .order .now) j 0) false in let i = c .before .before .before .before .before .before .before .loop .i in omega (arith, byte-most (bit (4 * i + 1)), byte-most (bit (4 * i + 2)))
+add-all c = let bit : ℕ → Bool = λ j. getD (c .before .before .before .before .before .before .before .before .loop .all) (getD (c .before .before .before .before .before .before .before .before .before .before .args .order .now) j 0) false in let i = c .before .before .before .before .before .before .before .before .loop .i in omega (arith, byte-most (bit (4 * i + 1)), byte-most (bit (4 * i + 2)))
 
-mul-all-3 : tie.Need-mul-all-3 Inv-loop μ-loop
-mul-all-3 c = let bit : ℕ → Bool = λ j. getD (c .before .before .before .before .before .before .before .loop .all) (getD (c .before .before .before .before .before .before .before .before .before .args .order .now) j 0) false in let i = c .before .before .before .before .before .before .before .loop .i in omega (arith, byte-most (bit (4 * i)))
+mul-all-2 : tie.Need-mul-all-2 Inv-loop μ-loop
+mul-all-2 c = let bit : ℕ → Bool = λ j. getD (c .before .before .before .before .before .before .before .before .loop .all) (getD (c .before .before .before .before .before .before .before .before .before .before .args .order .now) j 0) false in let i = c .before .before .before .before .before .before .before .before .loop .i in omega (arith, byte-most (bit (4 * i)))
 
 add-all-2 : tie.Need-add-all-2 Inv-loop μ-loop
-add-all-2 c = let bit : ℕ → Bool = λ j. getD (c .before .before .before .before .before .before .before .loop .all) (getD (c .before .before .before .before .before .before .before .before .before .args .order .now) j 0) false in let i = c .before .before .before .before .before .before .before .loop .i in omega (arith, byte-most (bit (4 * i + 1)), byte-most (bit (4 * i + 2)), byte-most (bit (4 * i)), c .before .before .before .before .before .before .before .before .before .pre .1 .most-rows, c .before .before .before .before .before .before .before .before .before .pre .2)
+add-all-2 c = let bit : ℕ → Bool = λ j. getD (c .before .before .before .before .before .before .before .before .loop .all) (getD (c .before .before .before .before .before .before .before .before .before .before .args .order .now) j 0) false in let i = c .before .before .before .before .before .before .before .before .loop .i in omega (arith, byte-most (bit (4 * i + 1)), byte-most (bit (4 * i + 2)), byte-most (bit (4 * i)))
 
-add-all-3 : tie.Need-add-all-3 Inv-loop μ-loop
-add-all-3 c = let bit : ℕ → Bool = λ j. getD (c .before .before .before .before .before .before .before .loop .all) (getD (c .before .before .before .before .before .before .before .before .before .args .order .now) j 0) false in let i = c .before .before .before .before .before .before .before .loop .i in omega (arith, byte-most (bit (4 * i + 1)), byte-most (bit (4 * i + 2)), byte-most (bit (4 * i)), c .before .before .before .before .before .before .before .before .before .pre .1 .most-rows, c .before .before .before .before .before .before .before .before .before .pre .2)
+cast-all : tie.Need-cast-all Inv-loop μ-loop
+cast-all c = let bit : ℕ → Bool = λ j. getD (c .before .before .before .before .before .before .before .before .loop .all) (getD (c .before .before .before .before .before .before .before .before .before .before .args .order .now) j 0) false in let i = c .before .before .before .before .before .before .before .before .loop .i in omega (arith, byte-most (bit (4 * i + 1)), byte-most (bit (4 * i + 2)), byte-most (bit (4 * i)))
 
-element-copy-out-all : tie.Need-element-copy-out-all Inv-loop μ-loop
-element-copy-out-all c = let bit : ℕ → Bool = λ j. getD (c .before .before .before .before .before .before .before .loop .all) (getD (c .before .before .before .before .before .before .before .before .before .args .order .now) j 0) false in let i = c .before .before .before .before .before .before .before .loop .i in omega (arith, byte-most (bit (4 * i + 1)), byte-most (bit (4 * i + 2)), byte-most (bit (4 * i)), c .before .before .before .before .before .before .before .before .before .pre .1 .most-rows, c .before .before .before .before .before .before .before .before .before .pre .2)
+shr-all : tie.Need-shr-all Inv-loop μ-loop
+shr-all c = let bit : ℕ → Bool = λ j. getD (c .before .before .before .before .before .before .before .before .loop .all) (getD (c .before .before .before .before .before .before .before .before .before .before .args .order .now) j 0) false in let i = c .before .before .before .before .before .before .before .before .loop .i in omega (arith, byte-most (bit (4 * i + 1)), byte-most (bit (4 * i + 2)), byte-most (bit (4 * i)))
 
 slice-write-all : tie.Need-slice-write-all Inv-loop μ-loop
 slice-write-all c = let p = c .before .before .before .before .before .before .before .before .before .before .pre in let b = step-cells (p .1) (p .3) (c .before .before .before .before .before .before .before .before .loop .i) (omega (arith, p .2)) in let n = c .before .before .before .before .before .before .before .before .loop .inv (p .0) (p .1) (p .2) (p .3) .size ∙ c .before .before .before .before .before .before .before .before .before .all .given .0 .1 in omega (arith, b .0, n)
@@ -99,13 +103,13 @@ fill-cycle-spec =
     (λ c. search needs)
     slice-read-x
     (λ c. search needs)
-    (λ c. search needs)
-    mul-all-2
-    add-all
-    mul-all-3
-    add-all-2
-    add-all-3
     element-copy-out-all
+    mul-all
+    add-all
+    mul-all-2
+    add-all-2
+    cast-all
+    shr-all
     slice-write-all
     (λ c. search needs)
     (λ c. search needs)
