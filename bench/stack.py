@@ -61,6 +61,9 @@ def frame(name, instructions):
             rest.pop(0)
         elif rest[0] == ('movq', '$0x0,(%rsp)'):
             rest.pop(0)
+        elif size > saved and rest[0] == ('push', '%rax'):
+            size += 8  # the last eight bytes of a frame, by the shorter instruction
+            rest.pop(0)
         else:
             break
     calls, below, touched = set(), 0, 0

@@ -55,7 +55,7 @@ for kind in ('true', 'false', 'sig 1', 'nsig 1', 'not 1', 'next 1', 'always 1', 
                 judged(r, t)
 
 # rows that wait for each other round after round of a loop (02, request 5). Start values set once are wrong of the first, two rounds
-# whatever the rule of the second and third; the chains need 32 rounds and 64, which is the most.
+# whatever the rule of the second; of the third they give the verdict but another sheet. 63 rows over each other need up to 64 rounds.
 def chain(*words):
     return [f'{word} {k}' for k, word in enumerate(words, 1)]
 
