@@ -1,18 +1,17 @@
 // Between two rounds: which rows are sure, and where the next round starts. No cycle is filled here.
-use tables::row::BinaryKind;
+use cycle_rows::pattern::Pattern;
+use cycle_rows::pattern::pattern_of;
 use tables::row::NormalForm;
 use tables::row::Row;
-use tables::row::UnaryKind;
 ghost use mathlib.Core.Path.{_≡_};
 ghost use mathlib.Core.Bool.{true, false};
 ghost use Prim.Native.Nat.{ℕ, suc, _≤_, _<_};
 ghost use lib.ListN.{length, set};
 ghost use Rattle.meaning.specs.Rows.{Each};
 ghost use Rattle.meaning.specs.Satisfaction.{tableOf};
-ghost use Rattle.meaning.specs.Pattern.{binaryPattern, patternOf, unaryPattern};
+ghost use Rattle.meaning.specs.Pattern.{patternOf};
 ghost use Rattle.normal_form.specs.Form.{InNormalForm};
 ghost use Rattle.cycle_rows.specs.Cells.{rowCell};
-ghost use Rattle.tables.specs.declared.row.Row.the-variants.{Unary, Binary};
 ghost use Rattle.between_rounds.specs.Between.{everyOperand, handed, Handed, sameBit, sameIn, stays, sureIn, Surveyed};
 
 fn sure_at(sure: &[bool; 128], number: u8) -> bool
@@ -51,36 +50,16 @@ fn operands_sure(row: Row, sure: &[bool; 128]) -> bool
     }
 }
 
-fn unary_stays(
-    kind: UnaryKind,
-    a: u8,
-    number: u8,
-    behind: &[bool; 160],
-    cells: &[bool; 160],
-) -> bool
-    requires { ⌜ (1 ≤ a) × (a ≤ 128) × (1 ≤ number) × (number ≤ 128) ⌝ }
-    ensures answer { λ r. ⌜ r ≡ stays (sameIn (now (behind .entry)) (now (cells .entry))) number (Unary kind a) (unaryPattern kind) ⌝ }
+// Whether each operand is at the loop's cycle what stood behind the last one.
+fn operands_same(row: Row, behind: &[bool; 160], cells: &[bool; 160]) -> bool
+    requires { ⌜ Each (λ a. (1 ≤ a) × (a ≤ 128)) row ⌝ }
+    ensures answer { λ r. ⌜ r ≡ everyOperand (sameIn (now (behind .entry)) (now (cells .entry))) row ⌝ }
 {
-    match kind {
-        UnaryKind::Not => true,
-        UnaryKind::Next => same_at(behind, cells, a),
-        UnaryKind::Always => same_at(behind, cells, number),
-        UnaryKind::Ever => same_at(behind, cells, number),
-    }
-}
-
-fn binary_stays(kind: BinaryKind, number: u8, behind: &[bool; 160], cells: &[bool; 160]) -> bool
-    requires { ⌜ (1 ≤ number) × (number ≤ 128) ⌝ }
-    ensures answer { λ r. ⌜ ((a b : ℕ)
-        → r ≡ stays (sameIn (now (behind .entry)) (now (cells .entry))) number (Binary kind a b) (binaryPattern kind)) ⌝ }
-{
-    match kind {
-        BinaryKind::And => true,
-        BinaryKind::Or => true,
-        BinaryKind::Weak => same_at(behind, cells, number),
-        BinaryKind::Until => same_at(behind, cells, number),
-        BinaryKind::Release => same_at(behind, cells, number),
-        BinaryKind::Srelease => same_at(behind, cells, number),
+    match row {
+        Row::Constant(_) => true,
+        Row::Signal(_, _) => true,
+        Row::Unary(_, a) => same_at(behind, cells, a),
+        Row::Binary(_, a, b) => same_at(behind, cells, a) & same_at(behind, cells, b),
     }
 }
 
@@ -89,11 +68,12 @@ fn row_stays(row: Row, number: u8, behind: &[bool; 160], cells: &[bool; 160]) ->
     requires { ⌜ Each (λ a. (1 ≤ a) × (a ≤ 128)) row × (1 ≤ number) × (number ≤ 128) ⌝ }
     ensures answer { λ r. ⌜ r ≡ stays (sameIn (now (behind .entry)) (now (cells .entry))) number row (patternOf row) ⌝ }
 {
-    match row {
-        Row::Constant(_) => true,
-        Row::Signal(_, _) => true,
-        Row::Unary(kind, a) => unary_stays(kind, a, number, behind, cells),
-        Row::Binary(kind, _, _) => binary_stays(kind, number, behind, cells),
+    let pattern = pattern_of(row);
+    match pattern {
+        Pattern::Now => true,
+        Pattern::Next => operands_same(row, behind, cells),
+        Pattern::Connective(_) => true,
+        Pattern::Temporal(_, _) => same_at(behind, cells, number),
     }
 }
 
@@ -127,38 +107,15 @@ pub fn survey(
 
 // A row behind the last cycle of the next round: as it was at the loop's; but until and its like, where an operand is not sure, start
 // from what holds if the goal is never met.
-fn unary_handed(kind: UnaryKind, operands: bool, left: bool) -> bool
-    ensures answer { λ r. ⌜ r ≡ handed (unaryPattern kind) operands left ⌝ }
-{
-    match kind {
-        UnaryKind::Not => left,
-        UnaryKind::Next => left,
-        UnaryKind::Always => left | !operands,
-        UnaryKind::Ever => left & operands,
-    }
-}
-
-fn binary_handed(kind: BinaryKind, operands: bool, left: bool) -> bool
-    ensures answer { λ r. ⌜ r ≡ handed (binaryPattern kind) operands left ⌝ }
-{
-    match kind {
-        BinaryKind::And => left,
-        BinaryKind::Or => left,
-        BinaryKind::Weak => left | !operands,
-        BinaryKind::Until => left & operands,
-        BinaryKind::Release => left | !operands,
-        BinaryKind::Srelease => left & operands,
-    }
-}
-
 fn row_handed(row: Row, operands: bool, left: bool) -> bool
     ensures answer { λ r. ⌜ r ≡ handed (patternOf row) operands left ⌝ }
 {
-    match row {
-        Row::Constant(_) => left,
-        Row::Signal(_, _) => left,
-        Row::Unary(kind, _) => unary_handed(kind, operands, left),
-        Row::Binary(kind, _, _) => binary_handed(kind, operands, left),
+    let pattern = pattern_of(row);
+    match pattern {
+        Pattern::Now => left,
+        Pattern::Next => left,
+        Pattern::Connective(_) => left,
+        Pattern::Temporal(_, start) => if operands { left } else { start },
     }
 }
 

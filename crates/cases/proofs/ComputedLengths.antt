@@ -1,6 +1,6 @@
 -- What the cases on a sheet's length have to compute, and that it makes them so. Assumes nothing.
 use Prim.Native.Nat.{ℕ}
-use mathlib.Core.Path.{_≡_, refl, sym, ap}
+use mathlib.Core.Path.{_≡_, refl, sym, ap, subst, subst⁻¹}
 use lib.ListN.{length}
 use Rattle.tables.proofs.Choices.{clash}
 use Rattle.tables.proofs.Outcomes.{agree}
@@ -20,7 +20,7 @@ use Rattle.normal_form.specs.declared.sign.Sign.the-variants.{Plain}
 use Rattle.normal_form.specs.Form.{InNormalForm}
 use Rattle.normal_form.specs.Numbering.{normalForm}
 use Rattle.normal_form.proofs.Ranges.{form-normal}
-use Rattle.meeting.specs.Meeting.{pairOutcome}
+use Rattle.meeting.specs.Meeting.{pairOutcome, coveredTake}
 use Rattle.meeting.specs.declared.Wanted.the-variants.{Either}
 use Rattle.judging.specs.Verdict.{SaysOf}
 use Rattle.judging.specs.declared.verdict.Verdict.{Verdict}
@@ -28,6 +28,8 @@ use Rattle.judging.specs.declared.verdict.Verdict.the-variants.{Holds, Breaks, 
 use Rattle.judging.proofs.ByBits.{computedVerdict, verdict-computed}
 use Rattle.writing.specs.declared.answer.Bytes.the-variants.{Count}
 use Rattle.sheet_maker.specs.Length.{sheetLength}
+use Rattle.meaning.specs.Covers.{CoversForm}
+use Rattle.written_out.proofs.Laws.{coverable, covered-covers, covered-itself}
 use Rattle.sheet_maker.specs.Made.{SatisfiedIn, IsMade}
 use Rattle.sheet_maker.proofs.Demand.{sheet-made}
 use Rattle.sheet_length.specs.Answer.{Measured, Measured.sheet, Measured.none, Measures}
@@ -53,12 +55,14 @@ module _ (f : Formula) (t : Trace) (rule : FormulaValid f) (take : TraceValid t)
   made : SatisfiedIn f t (t .ending) → Measured f t (Count (sheetLength (g .rows) (t .cycles)))
   made satisfied =
       let ok : InNormalForm g = form-normal f Plain (rule .in-range) in
-      let s = sheet-made g t ok (take .range .most-cycles) (take .range .loop) in
+      let itself : coveredTake f t ≡ t = covered-itself g t in
+      let covers = subst (CoversForm g) itself (covered-covers g t (take .range) (coverable g t (take .range))) in
+      let s = sheet-made g t ok (take .range .most-cycles) (take .range .loop) covers in
       let a : Activation = s .0 in
       let is : IsMade g t a = s .1 in
       let size = made-size g t a (ok .most-rows) (take .range .most-cycles) is in
       let same : length (writtenSheet a) ≡ sheetLength (g .rows) (t .cycles) = rw (is .rows, is .cycles) at size in
-      sheet satisfied a is (ap Count (sym same))
+      sheet satisfied a (subst⁻¹ (λ u. IsMade g u a) itself is) (ap Count (sym same))
 
   settled : (e : Ending) (v : Verdict) → (SatisfiedIn f t e → Measured f t (Count (sheetLength (g .rows) (t .cycles)))) → (¬ SatisfiedIn f t e → Measured f t (Count 0))
       → SaysOf f t e v → ((u : Verdict) → SaysOf f t e u → u ≡ v) → Measured f t (Count (lengthBy (sheetLength (g .rows) (t .cycles)) v))

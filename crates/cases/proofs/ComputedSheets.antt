@@ -1,6 +1,6 @@
 -- What the cases on sheets have to compute, and that it makes them so. Assumes nothing.
 use Prim.Native.Nat.{ℕ, zero, suc, _+_, _-_, _≤_, _<_}
-use mathlib.Core.Path.{_≡_, refl, sym, ap, subst, _∙_}
+use mathlib.Core.Path.{_≡_, refl, sym, ap, subst, subst⁻¹, _∙_}
 use mathlib.Core.Logic.{_↔_, _⊎_, inl, inr}
 use mathlib.Core.Bool.{Bool, true, false, _&&_}
 use mathlib.Core.List.{List}
@@ -33,7 +33,8 @@ use Rattle.meaning.proofs.Readings.{On, on-and-off}
 use Rattle.meaning.proofs.Truth.{everyCycle}
 use Rattle.meaning.proofs.Periodic.{position-first}
 use Rattle.meaning.proofs.Evaluation.{bitsOf}
-use Rattle.meaning.proofs.Lasso.{lasso-bits-computed, lasso-truth}
+use Rattle.meaning.proofs.Nesting.{nested-none}
+use Rattle.meaning.proofs.Lasso.{lasso-bits-computed, lasso-truth, covers-unnested}
 use Rattle.normal_form.specs.declared.sign.Sign.the-variants.{Plain}
 use Rattle.normal_form.specs.Form.{InNormalForm}
 use Rattle.normal_form.specs.Numbering.{normalForm}
@@ -45,13 +46,14 @@ use Rattle.writing.specs.Answer.{writtenAnswer}
 use Rattle.writing.specs.Lent.{overlaid}
 use Rattle.judging.specs.declared.verdict.Verdict.the-variants.{Holds}
 use Rattle.judging.specs.Verdict.{SaysOf, VerdictOf}
-use Rattle.meeting.specs.Meeting.{pairOutcome}
+use Rattle.meeting.specs.Meeting.{pairOutcome, coveredTake}
 use Rattle.meeting.specs.declared.Wanted.the-variants.{Either}
 use Rattle.judging.proofs.ByBits.{computedVerdict, verdict-computed}
 use Rattle.sheet_maker.specs.Made.{SatisfiedIn, Satisfied, IsMade}
 use Rattle.sheet_maker.specs.Answer.{answerOf, Answers.sheet, Makes}
 use Rattle.checking.specs.declared.finding.Finding.{Finding}
 use Rattle.checking.specs.declared.finding.CheckAnswer.the-variants.{Checked}
+use Rattle.written_out.proofs.Laws.{covered-itself}
 use Rattle.checking.specs.Finding.{FindingOf}
 use Rattle.checking.specs.Answer.{checkOutcome, CheckAnswers}
 use Rattle.checking.proofs.Answers.{found-answer}
@@ -70,9 +72,11 @@ module _ (f : Formula) (t : Trace) (a : Activation) (rule : FormulaValid f) (tak
   pub check-computed : (x : Finding) → ChecksTo f t a x → CheckAnswers (checkOutcome f t a) f t a (Checked x)
   check-computed x c =
       let sizes : (eqb (a .rows) (normalForm f Plain .rows) && eqb (a .cycles) (t .cycles)) ≡ true = rw (eq-eqb (a .rows) (normalForm f Plain .rows) (c .rows), eq-eqb (a .cycles) (t .cycles) (c .cycles)) refl in
+      let itself : coveredTake f t ≡ t = covered-itself (normalForm f Plain) t in
       let checks : checkOutcome f t a ≡ Accepted =
-      rw (rule-written f rule, take-written t take, sheet-written a sheet, sym (agree (f .signals) (t .signals) (c .signals)), sizes) refl in
-      (found-answer f t a (checkOutcome f t a) checks x (subst (FindingOf (normalForm f Plain) t a) (c .found) (finding-computed (normalForm f Plain) t a (take .range)))) .so
+      rw (rule-written f rule, take-written t take, sheet-written a sheet, sym (agree (f .signals) (t .signals) (c .signals)), itself, sizes) refl in
+      (found-answer f t a (checkOutcome f t a) checks x
+      (subst⁻¹ (λ u. FindingOf (normalForm f Plain) u a x) itself (subst (FindingOf (normalForm f Plain) t a) (c .found) (finding-computed (normalForm f Plain) t a (take .range))))) .so
 
 -- ---- a sheet made, on a looped take
 
@@ -132,20 +136,22 @@ module _ {text : List ℕ} (f : Formula) (t : Trace) (a : Activation) (rule : Fo
       let n : ℕ = t .cycles in
       let ok : InNormalForm g = form-normal f Plain (rule .in-range) in
       let ordered = form-ordered g ok in
+      let covers = covers-unnested n l below (signalAt t) (tableOf (g .places)) (suc (g .rows)) (λ k h. nested-none (tableOf (g .places)) k) in
       let p : suc (k - 1) ≡ k = omega (arith, h .0) in
       let same = same-bit _ _ (all-below n _ (all-below (g .rows) _ d (k - 1) (omega (arith, h .0, h .1))) i b) in
       let bit : activatorAt a i k ≡ lassoBit g t l k i = subst (λ j. activatorAt a i j ≡ lassoBit g t l j i) p same in
       let true-there = subst (λ j. RowTrue classical (unrolled t l) (tableOf (g .places)) k i ↔ On (lassoBit g t l k j)) (position-first n l i b)
-      (lasso-truth n l below (signalAt t) (tableOf (g .places)) (suc (g .rows)) ordered _ (lasso-bits-computed n l below (signalAt t) (tableOf (g .places)) (suc (g .rows)) ordered) classical k (omega (arith, h .1)) i) in
+      (lasso-truth n l below (signalAt t) (tableOf (g .places)) (suc (g .rows)) ordered covers _
+      (lasso-bits-computed n l below (signalAt t) (tableOf (g .places)) (suc (g .rows)) ordered covers) classical k (omega (arith, h .1)) i) in
       (λ x. true-there .1 (sym bit ∙ x), λ x. bit ∙ true-there .0 x)
 
-  made : IsMade g t a
-  made = record {
+  made : IsMade g (coveredTake f t) a
+  made = subst⁻¹ (λ u. IsMade g u a) (covered-itself g t) (record {
     places = ap length (valid .unused) ∙ length-tabulate 128 0 _;
     rows = c .rows;
     cycles = c .cycles;
     digits = told (t .ending) (take .range .loop) (c .digits);
-  }
+  })
 
   satisfied : Satisfied f t
   satisfied = by (t .ending) (subst (VerdictOf f t) (c .holds) (verdict-computed f t (rule .in-range) (take .range)) .said)

@@ -19,13 +19,14 @@ use Rattle.writing.specs.declared.answer.Bytes.{Bytes}
 use Rattle.writing.specs.Answer.{Printed}
 use Rattle.writing.specs.Refusal.{refusalText, Told}
 use Rattle.checking.specs.declared.finding.Finding.{Finding}
+use Rattle.meeting.specs.Meeting.{coveredTake}
 use Rattle.checking.specs.Finding.{FindingOf}
 use Rattle.checking.specs.Answer.{metOutcome}
 use Rattle.check_text.specs.Text.{findingText}
 
 -- the lines with the finding on the normal form
 abbrev pub IsFindingText : Formula → Trace → Activation → List ℕ → Type 0
-IsFindingText f t a text = (x : Finding) × FindingOf (normalForm f Plain) t a x × (text ≡ findingText x)
+IsFindingText f t a text = (x : Finding) × FindingOf (normalForm f Plain) (coveredTake f t) a x × (text ≡ findingText x)
 
 -- three tables: what is refused of them together, or the finding
 abbrev pub IsMetText : Formula → Trace → Activation → List ℕ → Type 0

@@ -1,6 +1,6 @@
 -- The answers of a sheet check by their cases. Assumes nothing.
 use Prim.Native.Nat.{ℕ}
-use mathlib.Core.Path.{_≡_, refl, sym, ap, subst, subst⁻¹, _∙_}
+use mathlib.Core.Path.{_≡_, refl, sym, ap, ap₂, subst, subst⁻¹, _∙_}
 use mathlib.Core.Bool.{Bool, true, false, _&&_}
 use lib.Dec.{eqb}
 use Rattle.tables.specs.Choice.{pick}
@@ -17,7 +17,7 @@ use Rattle.tables.specs.declared.trace.Activation.{Activation}
 use Rattle.tables.specs.declared.trace.Trace.{Trace}
 use Rattle.normal_form.specs.declared.sign.Sign.the-variants.{Plain}
 use Rattle.normal_form.specs.Numbering.{normalForm}
-use Rattle.meeting.specs.Meeting.{meetingOutcome}
+use Rattle.meeting.specs.Meeting.{meetingOutcome, coveredTake}
 use Rattle.meeting.specs.declared.Wanted.the-variants.{Either}
 use Rattle.meeting.proofs.Laws.{meeting-line}
 use Rattle.checking.specs.declared.finding.Finding.{Finding}
@@ -40,16 +40,17 @@ lineIn Accepted = 0
 lineIn (Refused x) = x .line
 
 module _ (f : Formula) (t : Trace) (a : Activation) where
-  -- the sizes of the normal form at hand, which is the rule's where nothing is refused before
-  pub met-sizes : (o : Outcome) (g : NormalForm) → (o ≡ Accepted → g ≡ normalForm f Plain) → andThen o (sizesOutcome g t a) ≡ andThen o (nineOutcome f t a)
-  met-sizes Accepted g e = ap (λ (g : NormalForm). sizesOutcome g t a) (e refl)
-  met-sizes (Refused x) g e = refl
+  -- the sizes of the normal form and the covered take at hand, which are the rule's and the take's where nothing is refused before
+  pub met-sizes : (o : Outcome) (g : NormalForm) (u : Trace) → (o ≡ Accepted → g ≡ normalForm f Plain) → (o ≡ Accepted → u ≡ coveredTake f t)
+      → andThen o (sizesOutcome g u a) ≡ andThen o (nineOutcome f t a)
+  met-sizes Accepted g u e d = ap₂ (λ (g : NormalForm) (u : Trace). sizesOutcome g u a) (e refl) (d refl)
+  met-sizes (Refused x) g u e d = refl
 
   module _ (o : Outcome) where
     pub refused-answer : {x : Refusal} → o ≡ Refused x → TheOnly (CheckAnswers o f t a) (CheckRefused x)
     refused-answer {x} e = only-found o f t a (CheckRefused x) (subst⁻¹ (λ o. CheckAnswers o f t a (CheckRefused x)) e refl)
 
-    pub found-answer : o ≡ Accepted → (x : Finding) → FindingOf (normalForm f Plain) t a x → TheOnly (CheckAnswers o f t a) (Checked x)
+    pub found-answer : o ≡ Accepted → (x : Finding) → FindingOf (normalForm f Plain) (coveredTake f t) a x → TheOnly (CheckAnswers o f t a) (Checked x)
     found-answer e x is = only-found o f t a (Checked x) (subst⁻¹ (λ o. CheckAnswers o f t a (Checked x)) e (x, refl, is))
 
   -- tables that pass their own checks, by those of the three together
@@ -76,10 +77,10 @@ module _ (f : Formula) (t : Trace) (a : Activation) where
   told-refused (Refused x) p e = ap (λ r. Refused (whyIn r)) (sym p ∙ e)
   told-refused Accepted (x, p, is) e = absurd (subst IsChecked (sym p ∙ e) tt)
 
-  pub told-checked : (o : Outcome) {r : CheckAnswer} {x : Finding} → CheckAnswers o f t a r → r ≡ Checked x → (o ≡ Accepted) × FindingOf (normalForm f Plain) t a x
+  pub told-checked : (o : Outcome) {r : CheckAnswer} {x : Finding} → CheckAnswers o f t a r → r ≡ Checked x → (o ≡ Accepted) × FindingOf (normalForm f Plain) (coveredTake f t) a x
   unfolding findingIn IsChecked
   told-checked (Refused y) p e = absurd (subst IsChecked (sym e ∙ p) tt)
-  told-checked Accepted (y, p, is) e = (refl, subst (FindingOf (normalForm f Plain) t a) (ap findingIn (sym p ∙ e)) is)
+  told-checked Accepted (y, p, is) e = (refl, subst (FindingOf (normalForm f Plain) (coveredTake f t) a) (ap findingIn (sym p ∙ e)) is)
 
   -- "file and line 0 for 7 to 10"
   pub met-line : {x : Refusal} → metOutcome f t a ≡ Refused x → x .line ≡ 0
@@ -91,5 +92,5 @@ module _ (f : Formula) (t : Trace) (a : Activation) where
       nine false q = sym (ap lineIn q)
 
       by : (o : Outcome) → meetingOutcome Either f t ≡ o → andThen o (nineOutcome f t a) ≡ Refused x → x .line ≡ 0
-      by Accepted m q = nine (eqb (a .rows) (normalForm f Plain .rows) && eqb (a .cycles) (t .cycles)) q
+      by Accepted m q = nine (eqb (a .rows) (normalForm f Plain .rows) && eqb (a .cycles) (coveredTake f t .cycles)) q
       by (Refused y) m q = meeting-line Either f t (m ∙ q)

@@ -4,9 +4,7 @@ use mathlib.Core.Path.{_≡_, sym, ap, subst, subst⁻¹, _∙_}
 use mathlib.Core.Bool.{Bool, true, false}
 use native.Mathlib.Decide.{decLt, ℕ-discrete}
 use native.Mathlib.Omega.{arith}
-use lib.Dec.{eqb}
 use borrow.Author.Tests.{eq-eqb, ne-eqb, lt-ltb, le-ltb}
-use Rattle.tables.specs.Choice.{pick}
 use Rattle.tables.specs.declared.row.Row.{Row}
 use Rattle.tables.specs.declared.row.Row.the-variants.{Constant, Signal, Unary, Binary}
 use Rattle.tables.specs.declared.row.NormalForm.{NormalForm}
@@ -21,12 +19,11 @@ use Rattle.meaning.specs.Rows.{Each}
 use Rattle.meaning.proofs.Rows.{each-signal}
 use Rattle.meaning.proofs.Periodic.{position-first}
 use Rattle.monitors.specs.declared.Output.{Output}
-use Rattle.monitors.specs.Along.{pendingBefore}
+use Rattle.monitors.specs.Along.{stateBefore}
 use Rattle.monitors.specs.Sheet.{activatorAt, loopedOutput, openOutput, IsRow, PassesLooped, PassesOpen}
 use Rattle.monitors.proofs.Locality.{output-local}
 use Rattle.monitors.proofs.Periods.{lasso-never-fails, lasso-accepts, lasso-starved}
-use Rattle.checking.specs.declared.finding.Finding.{Finding}
-use Rattle.checking.specs.declared.finding.Finding.the-variants.{Failed, Passes}
+use Rattle.checking.specs.declared.finding.Finding.the-variants.{Passes}
 use Rattle.checking.specs.declared.survey.Survey.{Survey}
 use Rattle.row_monitor.specs.RowReport.{CourseOf}
 use Rattle.checking.specs.Survey.{LowestOf, said, waiting, Accepts, Starves, SurveyTo}
@@ -141,7 +138,7 @@ module _ (g : NormalForm) (t : Trace) (a : Activation) (n>0 : 1 ≤ t .cycles) w
       (λ i l k u. ap (λ c. activatorAt a c k) (position-first (t .cycles) 0 i l)) k tt i h
 
   open-waiting : (k : ℕ) → waiting g t a (courseOf (t .cycles) Open) (t .cycles) k ≡ openOutput g t a (t .cycles - 1) k .pending
-  unfolding pendingBefore
+  unfolding stateBefore
   open-waiting k =
       let e : t .cycles ≡ suc (t .cycles - 1) = omega arith in
       ap (λ i. waiting g t a (courseOf (t .cycles) Open) i k) e ∙ ap (λ (o : Output). o .pending) (open-said (t .cycles - 1) k (omega arith))

@@ -11,6 +11,7 @@ use Rattle.normal_form.specs.declared.sign.Sign.the-variants.{Plain}
 use Rattle.normal_form.specs.Numbering.{normalForm}
 use Rattle.monitors.specs.Sheet.{Passes as SheetPasses}
 use Rattle.checking.specs.declared.finding.Finding.{Finding}
+use Rattle.meeting.specs.Meeting.{coveredTake}
 use Rattle.checking.specs.declared.finding.Finding.the-variants.{Passes}
 use Rattle.checking.specs.declared.finding.CheckAnswer.{CheckAnswer}
 use Rattle.checking.specs.declared.finding.CheckAnswer.the-variants.{Refused as CheckRefused, Checked}
@@ -26,9 +27,9 @@ abbrev pub findingOr : Finding → CheckAnswer → Finding
 findingOr x (CheckRefused why) = x
 findingOr x (Checked y) = y
 
-accepted-passes : (f : Formula) (t : Trace) (a : Activation) (r : CheckAnswer) → CheckAnswers Accepted f t a r → (r ≡ Checked Passes) ↔ SheetPasses (normalForm f Plain) t a
+accepted-passes : (f : Formula) (t : Trace) (a : Activation) (r : CheckAnswer) → CheckAnswers Accepted f t a r → (r ≡ Checked Passes) ↔ SheetPasses (normalForm f Plain) (coveredTake f t) a
 accepted-passes f t a r (x, e, is) = (
-  λ p. subst (FindingSays (normalForm f Plain) t a (t .ending)) (same p) (is .said),
+  λ p. subst (FindingSays (normalForm f Plain) (coveredTake f t) a (coveredTake f t .ending)) (same p) (is .said),
   λ p. subst (λ y. r ≡ Checked y) (sym (is .only Passes p)) e,
 )
   where
@@ -38,5 +39,5 @@ accepted-passes f t a r (x, e, is) = (
 -- REFUSALS ASIDE, THE CHECK SAYS `passes` EXACTLY OF THE PASSING SHEETS: of what the contract of `check_sheet` allows, where no check
 -- refuses
 pub passes-exactly : (f : Formula) (t : Trace) (a : Activation) → checkOutcome f t a ≡ Accepted
-    → (r : CheckAnswer) → CheckAnswers (checkOutcome f t a) f t a r → (r ≡ Checked Passes) ↔ SheetPasses (normalForm f Plain) t a
+    → (r : CheckAnswer) → CheckAnswers (checkOutcome f t a) f t a r → (r ≡ Checked Passes) ↔ SheetPasses (normalForm f Plain) (coveredTake f t) a
 passes-exactly f t a accepted r answers = accepted-passes f t a r (subst (λ o. CheckAnswers o f t a r) accepted answers)

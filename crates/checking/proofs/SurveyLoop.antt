@@ -21,9 +21,9 @@ use Rattle.tables.specs.declared.trace.Trace.{Trace}
 use Rattle.meaning.specs.Trace.{signalAt, position}
 use Rattle.meaning.specs.Satisfaction.{tableOf}
 use Rattle.monitors.specs.declared.Output.{Output}
-use Rattle.monitors.specs.declared.State.{State}
+use Rattle.monitors.specs.declared.RowState.{RowState}
 use Rattle.monitors.specs.Monitor.{rowMonitor, monitor}
-use Rattle.monitors.specs.Along.{pendingBefore}
+use Rattle.monitors.specs.Along.{stateBefore}
 use Rattle.monitors.specs.Sheet.{activatorAt}
 use Rattle.row_monitor.specs.declared.row.Course.{Course}
 use Rattle.row_monitor.specs.declared.row.Reads.{Reads}
@@ -93,7 +93,7 @@ module _ (t : Trace) (a : Activation) where
       numbers = subst⁻¹ (λ z. Numbers z x) same (subst⁻¹ (λ z. Numbers s z) copied at);
     }
 
-  at-numbers : (r : Row) (x : Reads) → Numbers r x → (c : ℕ) (s : State) → rowMonitor r (bitAt (x .first) c) (bitAt (x .second) c) s ≡ monitor (activatorAt a c) (signalAt t c) r s
+  at-numbers : (r : Row) (x : Reads) → Numbers r x → (c : ℕ) (s : RowState) → rowMonitor r (bitAt (x .first) c) (bitAt (x .second) c) s ≡ monitor (activatorAt a c) (signalAt t c) r s
   at-numbers (Constant k) x n c s = refl
   at-numbers (Signal k b) x n c s = ap (λ (l : Lane). rowMonitor (Signal k b) (bitAt l c) (bitAt (x .second) c) s) n
   at-numbers (Unary k b) x n c s = ap (λ (l : Lane). rowMonitor (Unary k b) (bitAt l c) (bitAt (x .second) c) s) n
@@ -110,7 +110,7 @@ module _ (t : Trace) (a : Activation) where
         ∙ ap (λ b. monitor (activatorAt a c) (signalAt t c) (tableOf (g .places) k) (record { active = activatorAt a c k; pending = b })) e
 
     pub pending-same : (i : ℕ) → coursePending (tableOf (g .places) k) x course i ≡ waiting g t a course i k
-    unfolding rowPending pendingBefore
+    unfolding rowPending stateBefore
     pending-same zero = refl
     pending-same (suc i) = ap (λ (o : Output). o .pending) (step i _ _ (pending-same i))
 

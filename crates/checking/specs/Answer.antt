@@ -15,7 +15,7 @@ use Rattle.sheet_file.specs.Sheet.{parseSheet}
 use Rattle.sheet_file.specs.Written.{writtenSheet}
 use Rattle.normal_form.specs.declared.sign.Sign.the-variants.{Plain}
 use Rattle.normal_form.specs.Numbering.{normalForm}
-use Rattle.meeting.specs.Meeting.{ownOutcome, meetingOutcome}
+use Rattle.meeting.specs.Meeting.{ownOutcome, meetingOutcome, coveredTake}
 use Rattle.meeting.specs.declared.Wanted.the-variants.{Either}
 use Rattle.checking.specs.declared.finding.Finding.{Finding}
 use Rattle.checking.specs.declared.finding.CheckAnswer.{CheckAnswer}
@@ -26,12 +26,12 @@ use Rattle.checking.specs.Finding.{FindingOf}
 abbrev pub tablesOutcome : Formula → Trace → Activation → Outcome
 tablesOutcome f t a = andThen (ownOutcome f t) (outcomeOf 3 (parseSheet (writtenSheet a)))
 
--- 9: "The sheet's rows or cycles differ from the normal form's or the take's."
+-- 9: "The sheet's rows or cycles differ from the normal form's or the take's", which is the take that the sheet covers
 abbrev pub sizesOutcome : NormalForm → Trace → Activation → Outcome
 sizesOutcome g t a = pick (eqb (a .rows) (g .rows) && eqb (a .cycles) (t .cycles)) Accepted (callRefused (numbered 9))
 
 abbrev pub nineOutcome : Formula → Trace → Activation → Outcome
-nineOutcome f t a = sizesOutcome (normalForm f Plain) t a
+nineOutcome f t a = sizesOutcome (normalForm f Plain) (coveredTake f t) a
 
 -- "Then 7 to 10 in order": of tables that have passed their own checks, and of any
 abbrev pub metOutcome : Formula → Trace → Activation → Outcome
@@ -40,7 +40,7 @@ metOutcome f t a = andThen (meetingOutcome Either f t) (nineOutcome f t a)
 abbrev pub checkOutcome : Formula → Trace → Activation → Outcome
 checkOutcome f t a = andThen (tablesOutcome f t a) (metOutcome f t a)
 
--- the answer: the refusal, or the finding on the normal form
+-- the answer: the refusal, or the finding on the normal form and the take that the sheet covers
 abbrev pub CheckAnswers : Outcome → Formula → Trace → Activation → CheckAnswer → Type 0
 CheckAnswers (Refused why) f t a r = r ≡ CheckRefused why
-CheckAnswers Accepted f t a r = (x : Finding) × (r ≡ Checked x) × FindingOf (normalForm f Plain) t a x
+CheckAnswers Accepted f t a r = (x : Finding) × (r ≡ Checked x) × FindingOf (normalForm f Plain) (coveredTake f t) a x

@@ -46,12 +46,12 @@ pub fn check_met(formula: Formula, trace: Trace, sheet: Activation) -> CheckAnsw
     let met = meeting::meet(formula, trace, Wanted::Either);
     let together = met.outcome;
     let form = met.form;
-    let sizes = check_sizes(form, trace, sheet);
+    let sizes = check_sizes(form, met.covered, sheet);
     let outcome = first_refusal(together, sizes);
     match outcome {
         Outcome::Refused(refusal) => CheckAnswer::Refused(refusal),
         Outcome::Accepted => {
-            let found = find::find(form, trace, sheet);
+            let found = find::find(form, met.covered, sheet);
             CheckAnswer::Checked(found)
         }
     }

@@ -23,7 +23,7 @@ use Rattle.writing.proofs.Room.{room-enough}
 use Rattle.writing.proofs.Lengths.{decimal-most, decimal-two-most}
 use Rattle.writing.proofs.Texts.{decimal-more-length}
 use Rattle.circuit_file.specs.Written.{linesOf, spaced, writtenCircuit, writtenLines}
-use Rattle.monitor_circuit.specs.Monitors.{circuitOf, wiringOf}
+use Rattle.monitor_circuit.specs.Monitors.{circuitOf, latchCount, wiringOf}
 use Rattle.monitor_circuit.proofs.GateRows.{firstGate, secondGate, thirdGate}
 use Rattle.circuit_writer.specs.Answer.{circuitText, writerAnswer}
 use Rattle.circuit_writer.specs.Section.{gateLines, inputLines, latchLines, outputLines, saidLines}
@@ -122,7 +122,7 @@ module _ (g : NormalForm) (ok : InNormalForm g) where
   header-most =
       omega (
         arith,
-        line-most (g .signals + 5 * g .rows) ((g .signals + g .rows) ∷ g .rows ∷ 3 * g .rows ∷ 3 * g .rows ∷ []) (omega (arith, ok .most-signals, ok .most-rows))
+        line-most (g .signals + g .rows + latchCount g + 3 * g .rows) ((g .signals + g .rows) ∷ latchCount g ∷ 3 * g .rows ∷ 3 * g .rows ∷ []) (omega (arith, ok .most-signals, ok .most-rows))
             (omega (arith, ok .most-signals, ok .most-rows), (omega (arith, ok .most-rows), (omega (arith, ok .most-rows), (omega (arith, ok .most-rows), tt)))),
       )
 

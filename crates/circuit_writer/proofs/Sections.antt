@@ -15,7 +15,7 @@ use Rattle.writing.specs.Lent.{Wrote}
 use Rattle.writing.proofs.Texts.{wrote-is}
 use Rattle.circuit_file.specs.Written.{writtenLines}
 use Rattle.monitor_circuit.specs.Wiring.{Operands, Wiring as MeantWiring}
-use Rattle.monitor_circuit.specs.Monitors.{gatesFrom, latchLiteral, latchOf, wiringOf}
+use Rattle.monitor_circuit.specs.Monitors.{gatesFrom, latchesOf, wiringOf}
 use Rattle.monitor_circuit.proofs.GateRows.{firstGate, secondGate, thirdGate}
 use Rattle.monitor_circuit.proofs.WellFormed.{inputs-are}
 use Rattle.row_wiring.specs.declared.Own.{Own}
@@ -29,12 +29,15 @@ use Rattle.line_writer.proofs.Lines.{Blocks, PutTo, blocksTo, more-lines, put-m
 abbrev pub inputBlock : Blocks
 inputBlock i = (2 * suc i ∷ []) ∷ []
 
+abbrev pub latchLine : Latch → List ℕ
+latchLine q = q .current ∷ q .next ∷ []
+
 abbrev pub gateLine : Gate → List ℕ
 gateLine e = e .lhs ∷ e .rhs0 ∷ e .rhs1 ∷ []
 
 module _ (g : NormalForm) where
   abbrev pub latchBlock : Blocks
-  latchBlock i = (latchLiteral g (suc i) ∷ wiringOf g (suc i) .pending ∷ []) ∷ []
+  latchBlock i = latchLine (latchesOf g .pending (suc i)) ∷ []
 
   abbrev pub saidBlock : Said → Blocks
   saidBlock said i = (saidOf said (wiringOf g (suc i)) ∷ []) ∷ []
@@ -51,8 +54,8 @@ module _ (g : NormalForm) where
 
   pub latch-blocks : blocksTo latchBlock (g .rows) ≡ latchLines g
   latch-blocks =
-      single-blocks (λ i. latchLiteral g (suc i) ∷ wiringOf g (suc i) .pending ∷ []) (g .rows)
-      ∙ sym (map-tabulate (λ (q : Latch). q .current ∷ q .next ∷ []) (g .rows) (λ i. latchOf g (suc i)))
+      single-blocks (λ i. latchLine (latchesOf g .pending (suc i))) (g .rows)
+      ∙ sym (map-tabulate latchLine (g .rows) (λ i. latchesOf g .pending (suc i)))
 
   pub said-blocks : (said : Said) → blocksTo (saidBlock said) (g .rows) ≡ saidLines said g
   said-blocks said =

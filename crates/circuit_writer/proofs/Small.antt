@@ -5,7 +5,7 @@ use native.Mathlib.Omega.{arith}
 use Rattle.tables.specs.declared.row.NormalForm.{NormalForm}
 use Rattle.normal_form.specs.Form.{InNormalForm}
 use Rattle.monitor_circuit.specs.Wiring.{Operands, Wiring as MeantWiring}
-use Rattle.monitor_circuit.specs.Monitors.{gateLiteral, latchLiteral, wiringOf}
+use Rattle.monitor_circuit.specs.Monitors.{gateLiteral, stateLiterals, wiringOf}
 use Rattle.monitor_circuit.proofs.WellFormed.{wiring-low}
 use Rattle.row_wiring.specs.declared.Own.{Own}
 use Rattle.row_wiring.specs.declared.Wiring.{Wiring}
@@ -39,7 +39,7 @@ module _ (g : NormalForm) (ok : InNormalForm g) {k : ℕ} (h : k < g .rows) wher
   pub gate-small : (j : ℕ) → j < 4 → FourDigits (gateLiteral g j (suc k))
   gate-small j l = omega (arith, ok .most-rows, ok .most-signals)
 
-  pub latch-small : FourDigits (latchLiteral g (suc k))
+  pub latch-small : FourDigits (stateLiterals g .pending (suc k))
   latch-small = omega (arith, ok .most-rows, ok .most-signals)
 
   pub row-small : SmallWiring (wiringOf g (suc k))

@@ -107,5 +107,5 @@ sheet-lends rule take before after r w = by (parseRule rule) (parseTake take) re
     by (accepted f) (accepted t) read taken x y =
         let o : Outcome = meetingOutcome Either f t in
         let fine = rule-valid rule f read .in-range in
-        let lends = met-lends f t fine before after (y .answer) o (x .answer) (λ n. sheet-length-told rule f read take t taken n o) (x .measures .so) (y .makes .so) in
+        let lends = met-lends f t fine before after (y .answer) o (x .answer) (λ n. sheet-length-told rule f read take t taken n o refl) (x .measures .so) (y .makes .so) in
         rw (x .coded, y .coded) lends

@@ -28,6 +28,7 @@ use Rattle.normal_form.specs.Numbering.{normalForm}
 use Rattle.normal_form.specs.declared.sign.Sign.{Sign}
 use Rattle.normal_form.proofs.Ranges.{form-normal}
 use Rattle.writing.specs.Refusal.{refusalText}
+use Rattle.step.specs.Step.{outputSize}
 use Rattle.normal_file.specs.Answer.{output}
 use Rattle.normal_file.proofs.Lengths.{output-most}
 use Rattle.writing.proofs.Lengths.{decimal-most}
@@ -107,7 +108,7 @@ module _ (f : Formula) (s : Sign) (ok : InRange f) where
   pub normal-enough : length (output f s) ≤ 2845
   normal-enough = omega (arith, output-most f s ok, ok .most-rows)
 
-  pub step-enough : 3 * normalForm f s .rows ≤ 384
+  pub step-enough : outputSize (normalForm f s .rows) ≤ 384
   step-enough = omega (arith, form-normal f s ok .most-rows)
 
 -- ---- a sheet: 33,567 bytes

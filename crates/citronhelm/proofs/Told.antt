@@ -1,6 +1,6 @@
 -- A length that is answered is never taken for a refusal: it is at most what include/citronhelm.h says, which lies far below the highest
 -- bit. Assumes nothing.
-use Prim.Native.Nat.{ℕ, _*_, _≤_, _<_}
+use Prim.Native.Nat.{ℕ, _≤_, _<_}
 use mathlib.Core.Path.{_≡_, sym, _∙_}
 use mathlib.Core.List.{List, []}
 use native.Mathlib.Omega.{arith}
@@ -23,13 +23,16 @@ use Rattle.normal_form.specs.declared.sign.Sign.{Sign}
 use Rattle.normal_form.specs.declared.sign.Sign.the-variants.{Plain}
 use Rattle.normal_form.specs.Numbering.{normalForm}
 use Rattle.normal_form.proofs.Ranges.{form-normal}
+use Rattle.meeting.specs.Meeting.{meetingOutcome, coveredTake}
+use Rattle.meeting.specs.declared.Wanted.the-variants.{Either}
+use Rattle.meeting.proofs.Covered.{accepted-range}
 use Rattle.writing.specs.Answer.{writtenAnswer}
 use Rattle.writing.specs.declared.answer.Bytes.{Bytes}
 use Rattle.writing.specs.declared.answer.Bytes.the-variants.{Count, Refused as BytesRefused}
 use Rattle.writing.proofs.Room.{written-length}
 use Rattle.normal_file.specs.Answer.{boundOf, output}
 use Rattle.judge_text.specs.Answer.{Prints}
-use Rattle.step.specs.Step.{formAnswer, formOutcome}
+use Rattle.step.specs.Step.{formAnswer, formOutcome, outputSize}
 use Rattle.sheet_maker.specs.declared.MakerAnswer.the-variants.{Written}
 use Rattle.sheet_maker.specs.Made.{IsMade}
 use Rattle.sheet_maker.specs.Answer.{Answers, Answers.none, Answers.sheet, MakesOn, answerOf}
@@ -66,8 +69,8 @@ module _ (rule : List ℕ) (f : Formula) (read : parseRule rule ≡ accepted f) 
   pub step-told : (pendings activators signals buf : List ℕ) (n : ℕ) → formAnswer (normalForm f Plain) pendings activators signals buf ≡ Count n → n ≤ 384
   step-told pendings activators signals buf n answered = by (formOutcome (normalForm f Plain) pendings activators signals (length buf)) answered
     where
-      by : (o : Outcome) → onOutcome o BytesRefused (Count (3 * normalForm f Plain .rows)) ≡ Count n → n ≤ 384
-      by Accepted q = let same : 3 * normalForm f Plain .rows ≡ n = cc in omega (arith, step-enough f Plain fine)
+      by : (o : Outcome) → onOutcome o BytesRefused (Count (outputSize (normalForm f Plain .rows))) ≡ Count n → n ≤ 384
+      by Accepted q = let same : outputSize (normalForm f Plain .rows) ≡ n = cc in omega (arith, step-enough f Plain fine)
       by (Refused why) q = clash (cc)
 
   -- a circuit
@@ -80,29 +83,29 @@ module _ (rule : List ℕ) (f : Formula) (read : parseRule rule ≡ accepted f) 
 
   -- a sheet, which has some bytes, so that it is not taken for `none` either; and its length
   module _ (take : List ℕ) (t : Trace) (taken : parseTake take ≡ accepted t) where
-    made-short : (a : Activation) → IsMade (normalForm f Plain) t a → length (writtenSheet a) ≤ 33567
-    made-short a made =
-        let range = take-valid take t taken .range in
+    made-short : meetingOutcome Either f t ≡ Accepted → (a : Activation) → IsMade (normalForm f Plain) (coveredTake f t) a → length (writtenSheet a) ≤ 33567
+    made-short met a made =
+        let range = accepted-range Either f t (take-valid take t taken .range) met in
         sheet-enough a (made .places) (omega (arith, made .rows, form-normal f Plain fine .most-rows)) (omega (arith, made .cycles, range .most-cycles))
 
-    sheet-written : (before after : List ℕ) (n : ℕ) → Answers f t before after (Written n) → (0 < n) × (n ≤ 33567)
-    sheet-written before after n (sheet s a made answered left) =
+    sheet-written : meetingOutcome Either f t ≡ Accepted → (before after : List ℕ) (n : ℕ) → Answers f t before after (Written n) → (0 < n) × (n ≤ 33567)
+    sheet-written met before after n (sheet s a made answered left) =
         let same : n ≡ length (writtenSheet a) = written-length (writtenSheet a) before (by (writtenAnswer (writtenSheet a) before) answered) in
-        (omega (arith, same, sheet-some a), omega (arith, same, made-short a made))
+        (omega (arith, same, sheet-some a), omega (arith, same, made-short met a made))
       where
         by : (b : Bytes) → Written n ≡ answerOf b → b ≡ Count n
         by (Count m) q = cc
         by (BytesRefused why) q = clash (cc)
-    sheet-written before after n (none s answered left) = clash (cc)
+    sheet-written met before after n (none s answered left) = clash (cc)
 
-    pub sheet-told : (before after : List ℕ) (n : ℕ) (o : Outcome) → MakesOn o f t before after (Written n) → (0 < n) × (n ≤ 33567)
-    sheet-told before after n Accepted x = sheet-written before after n x
-    sheet-told before after n (Refused why) x = let q = x .0 in clash (cc)
+    pub sheet-told : (before after : List ℕ) (n : ℕ) (o : Outcome) → meetingOutcome Either f t ≡ o → MakesOn o f t before after (Written n) → (0 < n) × (n ≤ 33567)
+    sheet-told before after n Accepted met x = sheet-written met before after n x
+    sheet-told before after n (Refused why) met x = let q = x .0 in clash (cc)
 
-    pub sheet-length-told : (n : ℕ) (o : Outcome) → MeasuresOn o f t (Count n) → n ≤ 33567
-    sheet-length-told n Accepted (sheet s a made e) = let same : n ≡ length (writtenSheet a) = cc in omega (arith, same, made-short a made)
-    sheet-length-told n Accepted (none s e) = let same : n ≡ 0 = cc in omega arith
-    sheet-length-told n (Refused why) e = clash (cc)
+    pub sheet-length-told : (n : ℕ) (o : Outcome) → meetingOutcome Either f t ≡ o → MeasuresOn o f t (Count n) → n ≤ 33567
+    sheet-length-told n Accepted met (sheet s a made e) = let same : n ≡ length (writtenSheet a) = cc in omega (arith, same, made-short met a made)
+    sheet-length-told n Accepted met (none s e) = let same : n ≡ 0 = cc in omega arith
+    sheet-length-told n (Refused why) met e = clash (cc)
 
 -- the text of `judge`
 pub text-told : (rule take before after : List ℕ) (n : ℕ) → Prints rule take before after (Count n) → n ≤ 64

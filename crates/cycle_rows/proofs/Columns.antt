@@ -16,7 +16,7 @@ use Rattle.meaning.proofs.Rows.{each-map, each-zip, each-signal, each-signal-ma
 use Rattle.normal_form.specs.Form.{InNormalForm}
 use Rattle.normal_form.proofs.FormTables.{form-operands, row-signals}
 use Rattle.cycle_rows.specs.Cycle.{rowFrom}
-use Rattle.cycle_rows.specs.Cells.{signalCell, rowCell, FilledIn}
+use Rattle.cycle_rows.specs.Cells.{givenIn, rowCell, FilledIn}
 use Rattle.cycle_rows.specs.Steps.{caseIn, cellOf, caseOf, StepsOf}
 use Rattle.cycle_rows.proofs.RowFrom.{row-from-local, step-bit-from, cells-below, turn-before, turn-after}
 
@@ -38,7 +38,7 @@ found-case false false false = refl
 module _ (g : NormalForm) (turn : ℕ → ℕ) (before : List Bool) where
   pub record FilledTo (i : ℕ) (cells : List Bool) : Type 0 where
     pub size : length cells ≡ length before
-    pub filled : (k : ℕ) → 1 ≤ k → k ≤ g .rows → turn k < i → rowCell cells k ≡ rowFrom (signalCell before) (rowCell cells) (rowCell before) (tableOf (g .places) k) k
+    pub filled : (k : ℕ) → 1 ≤ k → k ≤ g .rows → turn k < i → rowCell cells k ≡ rowFrom (givenIn before) (rowCell cells) (rowCell before) (tableOf (g .places) k) k
     pub ahead : (k : ℕ) → 1 ≤ k → k ≤ g .rows → i ≤ turn k → rowCell cells k ≡ rowCell before k
     pub signals : (j : ℕ) → j < 32 → getD cells j false ≡ getD before j false
     pub behind : (j : ℕ) → 32 + g .rows ≤ j → getD cells j false ≡ getD before j false
@@ -87,12 +87,12 @@ module _ {g : NormalForm} (ok : InNormalForm g) {order truth : List ℕ} (s : St
         by (no d) = omega arith
 
     -- the row whose turn it is, from the cells as its step finds them
-    row-now : x ≡ rowFrom (signalCell cells) (rowCell cells) (rowCell cells) (tableOf (g .places) k₀) k₀ → x ≡ rowFrom (signalCell before) (rowCell after) (rowCell before) (tableOf (g .places) k₀) k₀
+    row-now : x ≡ rowFrom (givenIn cells) (rowCell cells) (rowCell cells) (tableOf (g .places) k₀) k₀ → x ≡ rowFrom (givenIn before) (rowCell after) (rowCell before) (tableOf (g .places) k₀) k₀
     row-now e =
         let a = s .stepped i h in
         let r = tableOf (g .places) k₀ in
         let w = row-of k₀ (a .0) (a .1) in
-        e ∙ row-from-local (signalCell cells) (signalCell before) (rowCell cells) (rowCell after) (rowCell cells) (rowCell before) r k₀
+        e ∙ row-from-local (givenIn cells) (givenIn before) (rowCell cells) (rowCell after) (rowCell cells) (rowCell before) r k₀
         (each-signal-map _ _ r (λ n y. f .signals (n - 1) (omega (arith, y .0, y .1))) (w .1))
         (λ d. each-map _ _ (λ m y. sym (row-kept m (λ z. omega (arith, y .1)))) r (w .0))
         (λ d. each-zip _ _ _ (λ m y z. f .ahead m (y .0) (omega (arith, y .1, a .1)) (omega (arith, z, a .2))) r (w .0) (turn-before (s .turn) k₀ r (patternOf r) d (s .in-turn k₀ (a .0) (a .1))))
@@ -100,16 +100,16 @@ module _ {g : NormalForm} (ok : InNormalForm g) {order truth : List ℕ} (s : St
 
     -- a row that is filled reads no row whose turn is to come
     row-then : (k : ℕ) → 1 ≤ k → k ≤ g .rows → s .turn k < i
-        → rowFrom (signalCell before) (rowCell cells) (rowCell before) (tableOf (g .places) k) k ≡ rowFrom (signalCell before) (rowCell after) (rowCell before) (tableOf (g .places) k) k
+        → rowFrom (givenIn before) (rowCell cells) (rowCell before) (tableOf (g .places) k) k ≡ rowFrom (givenIn before) (rowCell after) (rowCell before) (tableOf (g .places) k) k
     row-then k a b l =
         let r = tableOf (g .places) k in
-        row-from-local (signalCell before) (signalCell before) (rowCell cells) (rowCell after) (rowCell before) (rowCell before) r k
+        row-from-local (givenIn before) (givenIn before) (rowCell cells) (rowCell after) (rowCell before) (rowCell before) r k
         (each-signal _ (λ n. refl) r)
         (λ d. each-map _ _ (λ m y. sym (row-kept m (other-row m (λ z. omega (arith, y))))) r (turn-after (s .turn) k r (patternOf r) d (s .in-turn k a b)))
         (λ d. each-map _ _ (λ m y. refl) r (row-of k a b .0))
         refl
 
-    filled-more : x ≡ rowFrom (signalCell cells) (rowCell cells) (rowCell cells) (tableOf (g .places) k₀) k₀ → FilledTo g (s .turn) before (suc i) after
+    filled-more : x ≡ rowFrom (givenIn cells) (rowCell cells) (rowCell cells) (tableOf (g .places) k₀) k₀ → FilledTo g (s .turn) before (suc i) after
     filled-more e = record {
       size = length-set cells (31 + k₀) x ∙ f .size;
       filled = λ k a b l. by k a b l (ℕ-discrete k k₀);
@@ -118,13 +118,13 @@ module _ {g : NormalForm} (ok : InNormalForm g) {order truth : List ℕ} (s : St
       behind = λ j l. kept j (λ z. omega (arith, s .stepped i h .1)) ∙ f .behind j l;
     }
       where
-        by : (k : ℕ) → 1 ≤ k → k ≤ g .rows → s .turn k < suc i → Dec (k ≡ k₀) → rowCell after k ≡ rowFrom (signalCell before) (rowCell after) (rowCell before) (tableOf (g .places) k) k
-        by k a b l (yes q) = subst (λ m. rowCell after m ≡ rowFrom (signalCell before) (rowCell after) (rowCell before) (tableOf (g .places) m) m) (sym q) (written ∙ row-now e)
+        by : (k : ℕ) → 1 ≤ k → k ≤ g .rows → s .turn k < suc i → Dec (k ≡ k₀) → rowCell after k ≡ rowFrom (givenIn before) (rowCell after) (rowCell before) (tableOf (g .places) k) k
+        by k a b l (yes q) = subst (λ m. rowCell after m ≡ rowFrom (givenIn before) (rowCell after) (rowCell before) (tableOf (g .places) m) m) (sym q) (written ∙ row-now e)
         by k a b l (no q) = let n = earlier k a b l q in row-kept k q ∙ (f .filled k a b n ∙ row-then k a b n)
 
   -- what a step finds, looked up, is the row from the cells as they are
   step-told : (cells : List Bool) (i : ℕ) → i < g .rows
-      → caseIn (getD truth i 0) (foundCase order cells i) ≡ rowFrom (signalCell cells) (rowCell cells) (rowCell cells) (tableOf (g .places) (s .rowAt i)) (s .rowAt i)
+      → caseIn (getD truth i 0) (foundCase order cells i) ≡ rowFrom (givenIn cells) (rowCell cells) (rowCell cells) (tableOf (g .places) (s .rowAt i)) (s .rowAt i)
   step-told cells i h =
       let p = s .step i h in
       let r = tableOf (g .places) (s .rowAt i) in

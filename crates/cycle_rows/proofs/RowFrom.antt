@@ -1,46 +1,51 @@
 -- What a row of a cycle is made of: the cells that its step reads, and for `next` only one cycle on. Assumes nothing.
 use Prim.Native.Nat.{ℕ, _≤_, _<_}
-use mathlib.Core.Path.{_≡_, refl, sym, ap, ap₂, _∙_}
+use mathlib.Core.Path.{_≡_, refl, sym, ap, ap₂}
 use mathlib.Core.Bool.{Bool, true, false}
 use mathlib.Core.List.{List}
 use native.Mathlib.Omega.{arith}
 use lib.ListN.{getD}
-use Rattle.tables.specs.declared.row.UnaryKind.the-variants.{Not, Next, Always, Ever}
 use Rattle.tables.specs.declared.row.Row.{Row}
 use Rattle.tables.specs.declared.row.Row.the-variants.{Constant, Signal, Unary, Binary}
-use Rattle.meaning.specs.Rows.{Each, EachSignal}
-use Rattle.meaning.specs.Pattern.{Pattern, Pattern.now, Pattern.next, Pattern.connective, Pattern.temporal, patternOf, binaryPattern, unaryPattern, left, right, signalSign, signedBit}
+use Rattle.meaning.specs.Rows.{Each, EachSignal, positive}
+use Rattle.meaning.specs.Pattern.{Pattern, Pattern.now, Pattern.next, Pattern.connective, Pattern.temporal}
+use Rattle.meaning.specs.Pattern.{patternOf, left, right, signalSign, signedBit, connectiveBit, operandBit}
 use Rattle.meaning.proofs.Readings.{on-and-off}
-use Rattle.cycle_rows.specs.Cycle.{patternFrom, rowFrom}
-use Rattle.cycle_rows.specs.Cells.{signalCell, rowCell}
+use Rattle.cycle_rows.specs.Cycle.{Given, patternFrom, rowFrom}
+use Rattle.cycle_rows.specs.Cells.{givenIn, rowCell}
 use Rattle.cycle_rows.specs.Steps.{cellOf, stepBit, isNext, InTurn}
-use Rattle.cycle_rows.proofs.ByKind.{binary-not-next}
 
--- only `next` looks at the operand one cycle on
-not-ahead : (p : Pattern) → false ≡ isNext p → (a b c d x : Bool) → patternFrom p a b c x ≡ patternFrom p a b d x
-not-ahead now e a b c d x = refl
-not-ahead next e a b c d x = on-and-off refl (sym e)
-not-ahead (connective f) e a b c d x = refl
-not-ahead (temporal f w) e a b c d x = refl
+-- a pattern looks at its operands in the cycle where it is not `next`, at the right one as it is one cycle on where it is, and at the row
+-- itself one cycle on
+pattern-local :
+    (p : Pattern) (a a′ b b′ c c′ x x′ : Bool) → (isNext p ≡ false → (a ≡ a′) × (b ≡ b′)) → (isNext p ≡ true → c ≡ c′) → x ≡ x′
+    → patternFrom p a b c x ≡ patternFrom p a′ b′ c′ x′
+pattern-local now a a′ b b′ c c′ x x′ here ahead own = here refl .1
+pattern-local next a a′ b b′ c c′ x x′ here ahead own = ahead refl
+pattern-local (connective f) a a′ b b′ c c′ x x′ here ahead own = let e = here refl in ap₂ (connectiveBit f) (e .0) (e .1)
+pattern-local (temporal f w) a a′ b b′ c c′ x x′ here ahead own = let e = here refl in rw (e .0, e .1, own)
+
+-- operands by their shape
+operands-local :
+    (s s′ h h′ : ℕ → Bool) (r : Row) → EachSignal (λ n. s n ≡ s′ n) r → Each (λ a. h a ≡ h′ a) r
+    → (operandBit s h (left r) ≡ operandBit s′ h′ (left r)) × (operandBit s h (right r) ≡ operandBit s′ h′ (right r))
+operands-local s s′ h h′ (Constant c) sig e = (refl, refl)
+operands-local s s′ h h′ (Signal c n) sig e = (refl, ap (signedBit (signalSign c)) sig)
+operands-local s s′ h h′ (Unary c a) sig e = (refl, ap (signedBit (positive c)) e)
+operands-local s s′ h h′ (Binary c a b) sig e = (e .0, e .1)
 
 -- a row looks at its signal, at its operands in the cycle where it is not `next`, at its operand one cycle on where it is, and at itself
 -- one cycle on
-module _ (s s′ h h′ u u′ : ℕ → Bool) where
-  pub row-from-local : (r : Row) (k : ℕ) → EachSignal (λ n. s n ≡ s′ n) r → (isNext (patternOf r) ≡ false → Each (λ a. h a ≡ h′ a) r)
-      → (isNext (patternOf r) ≡ true → Each (λ a. u a ≡ u′ a) r) → u k ≡ u′ k → rowFrom s h u r k ≡ rowFrom s′ h′ u′ r k
-  row-from-local (Constant c) k sig here ahead own = refl
-  row-from-local (Signal c n) k sig here ahead own = ap (signedBit (signalSign c)) sig
-  row-from-local (Unary Not a) k sig here ahead own = ap (signedBit false) (here refl)
-  row-from-local (Unary Next a) k sig here ahead own = ahead refl
-  row-from-local (Unary Always a) k sig here ahead own = ap₂ (λ x y. patternFrom (unaryPattern Always) false x x y) (here refl) own
-  row-from-local (Unary Ever a) k sig here ahead own = ap₂ (λ x y. patternFrom (unaryPattern Ever) true x x y) (here refl) own
-  row-from-local (Binary c a b) k sig here ahead own = let e = here (sym (binary-not-next c)) in
-      ap₂ (λ x y. patternFrom (binaryPattern c) x y (u b) (u k)) (e .0) (e .1)
-      ∙ (not-ahead (binaryPattern c) (binary-not-next c) (h′ a) (h′ b) (u b) (u′ b) (u k) ∙ ap (patternFrom (binaryPattern c) (h′ a) (h′ b) (u′ b)) own)
+module _ (x x′ : Given) (h h′ u u′ : ℕ → Bool) where
+  pub row-from-local :
+      (r : Row) (k : ℕ) → EachSignal (λ n. x .signals n ≡ x′ .signals n) r → (isNext (patternOf r) ≡ false → Each (λ a. h a ≡ h′ a) r)
+      → (isNext (patternOf r) ≡ true → Each (λ a. u a ≡ u′ a) r) → u k ≡ u′ k → rowFrom x h u r k ≡ rowFrom x′ h′ u′ r k
+  row-from-local r k sig here ahead own = pattern-local (patternOf r) _ _ _ _ _ _ (u k) (u′ k)
+      (λ e. operands-local (x .signals) (x′ .signals) h h′ r sig (here e)) (λ e. operands-local (x .signals) (x′ .signals) u u′ r sig (ahead e) .1) own
 
 -- what a step makes of its cells is the row, where these cells are all there is
 pub step-bit-from : (cells : List Bool) (r : Row) (k : ℕ) → stepBit r (getD cells (cellOf (left r)) false) (getD cells (cellOf (right r)) false) (rowCell cells k)
-    ≡ rowFrom (signalCell cells) (rowCell cells) (rowCell cells) r k
+    ≡ rowFrom (givenIn cells) (rowCell cells) (rowCell cells) r k
 step-bit-from cells (Constant c) k = refl
 step-bit-from cells (Signal c n) k = refl
 step-bit-from cells (Unary c a) k = refl

@@ -16,15 +16,19 @@ patternFrom next a b b⁺ x⁺ = b⁺
 patternFrom (connective f) a b b⁺ x⁺ = connectiveBit f a b
 patternFrom (temporal f w) a b b⁺ x⁺ = expand (keepBit f a b) (goalBit f a b) x⁺
 
--- row k of a cycle, from the cycle's signals, its rows and the rows one cycle on
-module _ (signals here ahead : ℕ → Bool) where
+-- what a cycle is given beside the rows one cycle on: its signals
+pub record Given : Type 0 where
+  pub signals : ℕ → Bool
+
+-- row k of a cycle, from what the cycle is given, its rows and the rows one cycle on
+module _ (given : Given) (here ahead : ℕ → Bool) where
   abbrev pub rowFrom : Row → ℕ → Bool
   rowFrom r k =
-      let a = operandBit signals here (left r) in
-      let b = operandBit signals here (right r) in
-      patternFrom (patternOf r) a b (operandBit signals ahead (right r)) (ahead k)
+      let a = operandBit (given .signals) here (left r) in
+      let b = operandBit (given .signals) here (right r) in
+      patternFrom (patternOf r) a b (operandBit (given .signals) ahead (right r)) (ahead k)
 
 -- "it fills a cycle from that cycle's signals and the rows one cycle on as they then stand, and nothing else": `here` are the rows so
 -- filled. Operands are earlier rows, so there are no others (law `cycle-only`).
-abbrev pub CycleFrom : NormalForm → (ℕ → Bool) → (ℕ → Bool) → (ℕ → Bool) → Type 0
-CycleFrom g signals ahead here = (k : ℕ) → k < g .rows → here (suc k) ≡ rowFrom signals here ahead (tableOf (g .places) (suc k)) (suc k)
+abbrev pub CycleFrom : NormalForm → Given → (ℕ → Bool) → (ℕ → Bool) → Type 0
+CycleFrom g given ahead here = (k : ℕ) → k < g .rows → here (suc k) ≡ rowFrom given here ahead (tableOf (g .places) (suc k)) (suc k)

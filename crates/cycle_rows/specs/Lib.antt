@@ -1,3 +1,4 @@
 pub mod Cycle
 pub mod Cells
+pub mod Meant
 pub mod Steps

@@ -26,6 +26,13 @@ fromCell (constant b) x = b
 fromCell (signal b s) x = signedBit b x
 fromCell (row b a) x = signedBit b x
 
+-- the left operand of a row with one operand: until has true, release false; elsewhere it does not count
+abbrev pub leftConstant : Pattern → Bool
+leftConstant now = true
+leftConstant next = true
+leftConstant (connective f) = f
+leftConstant (temporal f w) = f
+
 -- a row, from the cells of its operands and its own. `next` finds its operand as it stands one cycle on, and the others as it is in the
 -- cycle: that is a matter of the steps' order.
 abbrev pub stepBit : Row → Bool → Bool → Bool → Bool

@@ -6,7 +6,9 @@ ghost use Rattle.normal_form.specs.Form.{InNormalForm};
 ghost use Rattle.cycle_rows.specs.Cells.{FilledIn};
 ghost use Rattle.cycle_rows.specs.Steps.{StepsOf};
 
+pub mod pattern;
 pub mod prepare;
+mod step_bit;
 
 // The rows of the cycle, in place: the cells hold its signals and the rows one cycle on, and then its rows. Beside the steps nothing
 // else is given, and no branch depends on a row.

@@ -1,80 +1,22 @@
 // The steps of a normal form: each row with the cells that it reads, and its table.
-use tables::row::BinaryKind;
-use tables::row::ConstantKind;
+use crate::pattern::Pattern;
+use crate::pattern::pattern_of;
+use crate::step_bit::step_bit;
 use tables::row::NormalForm;
 use tables::row::Row;
-use tables::row::SignalKind;
-use tables::row::UnaryKind;
 ghost use mathlib.Core.Bool.{Bool};
 ghost use mathlib.Core.Path.{_≡_};
 ghost use Prim.Native.Nat.{ℕ, _≤_, _<_};
 ghost use lib.ListN.{length};
-ghost use Rattle.meaning.specs.Rows.{Each, EachSignal, positive};
-ghost use Rattle.meaning.specs.Pattern.{binaryPattern, constantBit, left, patternOf, right, signalSign, signedBit, unaryLeft, unaryPattern};
+ghost use Rattle.meaning.specs.Rows.{Each, EachSignal};
+ghost use Rattle.meaning.specs.Pattern.{left, patternOf, right};
 ghost use Rattle.normal_form.specs.Form.{InNormalForm};
-ghost use Rattle.cycle_rows.specs.Cycle.{patternFrom};
 ghost use Rattle.cycle_rows.specs.Steps.{caseIn, caseOf, cellOf, isNext, stepBit, StepFor, StepsOf};
 ghost use Rattle.tables.specs.declared.row.Row.{Row as AnyRow};
 
 pub struct Steps {
     pub order: [u8; 512],
     pub truth: [u8; 128],
-}
-
-fn constant(kind: ConstantKind) -> bool
-    ensures answer { λ r. ⌜ r ≡ constantBit kind ⌝ }
-{
-    match kind {
-        ConstantKind::True => true,
-        ConstantKind::False => false,
-    }
-}
-
-fn signal(kind: SignalKind, on: bool) -> bool
-    ensures answer { λ r. ⌜ r ≡ signedBit (signalSign kind) on ⌝ }
-{
-    match kind {
-        SignalKind::Sig => on,
-        SignalKind::Nsig => !on,
-    }
-}
-
-// A row with one operand: always goes on while the operand holds, and ever until it does.
-fn unary(kind: UnaryKind, a: bool, own: bool) -> bool
-    ensures answer { λ r. ⌜ r ≡ patternFrom (unaryPattern kind) (unaryLeft kind)
-        (signedBit (positive kind) a) (signedBit (positive kind) a) own ⌝ }
-{
-    match kind {
-        UnaryKind::Not => !a,
-        UnaryKind::Next => a,
-        UnaryKind::Always => a & own,
-        UnaryKind::Ever => a | own,
-    }
-}
-
-fn binary(kind: BinaryKind, a: bool, b: bool, own: bool) -> bool
-    ensures answer { λ r. ⌜ r ≡ patternFrom (binaryPattern kind) a b b own ⌝ }
-{
-    match kind {
-        BinaryKind::And => a & b,
-        BinaryKind::Or => a | b,
-        BinaryKind::Weak => b | (a & own),
-        BinaryKind::Until => b | (a & own),
-        BinaryKind::Release => b & (a | own),
-        BinaryKind::Srelease => b & (a | own),
-    }
-}
-
-// A row in a cycle, from its operands and from itself one cycle on.
-fn step_bit(row: Row, a: bool, b: bool, own: bool) -> bool
-    ensures answer { λ r. ⌜ r ≡ stepBit row a b own ⌝ }
-{
-    match row {
-        Row::Constant(kind) => constant(kind),
-        Row::Signal(kind, _) => signal(kind, b),
-        Row::Unary(kind, _) => unary(kind, b, own),
-        Row::Binary(kind, _, _) => binary(kind, a, b, own),
-    }
 }
 
 fn first_cell(row: Row) -> u8
@@ -133,16 +75,12 @@ fn put_step(order: &mut [u8; 512], truth: &mut [u8; 128], i: usize, number: u8, 
 fn is_next(row: Row) -> bool
     ensures answer { λ r. ⌜ r ≡ isNext (patternOf row) ⌝ }
 {
-    match row {
-        Row::Constant(_) => false,
-        Row::Signal(_, _) => false,
-        Row::Unary(kind, _) => match kind {
-            UnaryKind::Not => false,
-            UnaryKind::Next => true,
-            UnaryKind::Always => false,
-            UnaryKind::Ever => false,
-        },
-        Row::Binary(_, _, _) => false,
+    let pattern = pattern_of(row);
+    match pattern {
+        Pattern::Now => false,
+        Pattern::Next => true,
+        Pattern::Connective(_) => false,
+        Pattern::Temporal(_, _) => false,
     }
 }
 

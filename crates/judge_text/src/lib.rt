@@ -27,7 +27,7 @@ fn judge_met(formula: Formula, trace: Trace, buf: &mut [u8]) -> Bytes
         Outcome::Accepted => {
             let form = met.form;
             let rows = form.rows;
-            let found = judging::decide(form, formula, trace);
+            let found = judging::decide(form, formula, met.covered);
             let ending = trace.ending;
             verdict::deliver_verdict(formula.signals, rows, trace.cycles, ending, found, buf)
         }

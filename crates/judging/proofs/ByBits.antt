@@ -25,7 +25,8 @@ use Rattle.meaning.specs.Satisfaction.{tableOf, Satisfies}
 use Rattle.meaning.proofs.Truth.{everyCycle}
 use Rattle.meaning.proofs.Readings.{On, on-and-off}
 use Rattle.meaning.proofs.Evaluation.{bitsOf, bits-computed}
-use Rattle.meaning.proofs.Lasso.{lasso-bits-computed, lasso-truth}
+use Rattle.meaning.proofs.Nesting.{nested-none}
+use Rattle.meaning.proofs.Lasso.{lasso-bits-computed, lasso-truth, covers-unnested}
 use Rattle.meaning.proofs.StrongTruth.{cyclesBelow}
 use Rattle.meaning.proofs.Prefix.{prefix, toEnd, prefix-truth}
 use Rattle.normal_form.specs.declared.sign.Sign.{Sign}
@@ -60,8 +61,9 @@ module _ (f : Formula) (t : Trace) (fine : FormulaInRange f) where
   unfolding position
   looped-is l below =
       let ordered = table-ordered (f .signals) (f .rows) (f .places) (fine .rows-in-range) in
-      let computed = lasso-bits-computed (t .cycles) l below (signalAt t) (tableOf (f .places)) (suc (f .rows)) ordered in
-      lasso-truth (t .cycles) l below (signalAt t) (tableOf (f .places)) (suc (f .rows)) ordered _ computed classical (f .rows) (omega arith) 0
+      let covers = covers-unnested (t .cycles) l below (signalAt t) (tableOf (f .places)) (suc (f .rows)) (λ k h. nested-none (tableOf (f .places)) k) in
+      let computed = lasso-bits-computed (t .cycles) l below (signalAt t) (tableOf (f .places)) (suc (f .rows)) ordered covers in
+      lasso-truth (t .cycles) l below (signalAt t) (tableOf (f .places)) (suc (f .rows)) ordered covers _ computed classical (f .rows) (omega arith) 0
 
   open-is : 0 < t .cycles → (s : Sign) → StronglyTrue t (normalForm f s) ↔ On (openBit (normalForm f s) t)
   open-is some s =

@@ -1,3 +1,4 @@
 pub mod Verdicts
 pub mod Roots
 pub mod ByBits
+pub mod Covered

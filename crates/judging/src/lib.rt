@@ -17,6 +17,7 @@ ghost use Rattle.take_file.specs.Valid.{InRange as TraceInRange};
 ghost use Rattle.normal_form.specs.Form.{InNormalForm};
 ghost use Rattle.normal_form.specs.Numbering.{normalForm};
 ghost use Rattle.normal_form.specs.declared.sign.Sign.the-variants.{Plain};
+ghost use Rattle.meaning.specs.Covers.{CoversForm};
 ghost use Rattle.lanes.specs.Truth.{TrueAt};
 ghost use Rattle.judging.specs.Verdict.{VerdictOf};
 ghost use Rattle.meeting.specs.Meeting.{meetingOutcome, pairOutcome};
@@ -27,7 +28,7 @@ pub mod verdict;
 
 // Whether the root is true at the first cycle.
 fn root_true(form: NormalForm, trace: Trace) -> bool
-    requires { ⌜ InNormalForm form × TraceInRange trace ⌝ }
+    requires { ⌜ InNormalForm form × TraceInRange trace × CoversForm form trace ⌝ }
     ensures root { λ r. ⌜ TrueAt form trace (form .rows) 0 ↔ (r ≡ true) ⌝ }
 {
     let truth = truth::fill::fill(form, trace);
@@ -39,7 +40,7 @@ fn root_true(form: NormalForm, trace: Trace) -> bool
 // The verdict on tables that are known to be in range, from the formula's normal form. An open take is broken where the negated formula is
 // strongly true: that the formula is not is no more than open.
 pub fn decide(form: NormalForm, formula: Formula, trace: Trace) -> Verdict
-    requires { ⌜ (form ≡ normalForm formula Plain) × FormulaInRange formula × TraceInRange trace ⌝ }
+    requires { ⌜ (form ≡ normalForm formula Plain) × FormulaInRange formula × TraceInRange trace × CoversForm form trace ⌝ }
     ensures verdict { λ r. ⌜ VerdictOf formula trace r ⌝ }
 {
     let yes = root_true(form, trace);
@@ -70,7 +71,7 @@ pub fn judge_met(formula: Formula, trace: Trace, wanted: Wanted) -> Answer
     match outcome {
         Outcome::Refused(refusal) => Answer::Refused(refusal),
         Outcome::Accepted => {
-            let verdict = decide(met.form, formula, trace);
+            let verdict = decide(met.form, formula, met.covered);
             Answer::Judged(verdict)
         }
     }

@@ -1,8 +1,8 @@
 -- The bits computed for the rows of a table on an ultimately periodic trace are the truth, in any reading, `not` included
 -- (evaluation-is). Unrolled lassos are such traces, and so are prefixes, on which no cycle behind the end is live. Assumes nothing.
-use Prim.Native.Nat.{ℕ, zero, suc, _+_, _-_, _≤_, _<_}
+use Prim.Native.Nat.{ℕ, zero, suc, _+_, _*_, _-_, _≤_, _<_}
 use mathlib.Core.Path.{_≡_, refl, subst⁻¹, sym, ap, ap₂, _∙_}
-use mathlib.Core.Logic.{_↔_, Iff·trans}
+use mathlib.Core.Logic.{_↔_, _⊎_, inl, inr, Iff·trans}
 use mathlib.Core.Bool.{Bool, false, _&&_}
 use native.Mathlib.Omega.{arith}
 use Rattle.tables.specs.declared.row.Row.{Row}
@@ -11,8 +11,9 @@ use Rattle.meaning.specs.Trace.{InfiniteTrace}
 use Rattle.meaning.specs.Satisfaction.{Table}
 use Rattle.meaning.specs.Rows.{Each, Ordered}
 use Rattle.meaning.specs.Pattern.{Operand.signal, Operand.row, left, right, patternOf, operandBits, signedBit}
+use Rattle.meaning.specs.Nesting.{delay}
 use Rattle.meaning.proofs.Readings.{iff-refl, row-induction, On}
-use Rattle.meaning.proofs.Rows.{each-map}
+use Rattle.meaning.proofs.Rows.{each-map, each-zip}
 use Rattle.meaning.proofs.Truth.{Interprets}
 use Rattle.meaning.proofs.Periodic.{Periodic}
 use Rattle.meaning.proofs.Pattern.{OperandTrue, PatternMeans, both-operands}
@@ -60,40 +61,60 @@ module _ (live : ℕ → Bool) (w : InfiniteTrace) (depth : ℕ → ℕ) (t : Ta
 
 -- ---- they are the truth
 
--- from `start` on the trace repeats after `period` cycles, and the bits look one period ahead of that
+-- From `since` on the trace repeats after `period` cycles. Row k's operands repeat from `start k` on, and its own bits from `from k` on: as
+-- many rounds later as it delays, or wherever no cycle is live any more. The bits look one period ahead of the operands' start.
 pub record Evaluation (live : ℕ → Bool) (w : InfiniteTrace) (t : Table) (n : ℕ) (bits : ℕ → ℕ → Bool) : Type 0 where
   pub period : ℕ
-  pub start : ℕ
+  pub since : ℕ
+  pub start : ℕ → ℕ
+  pub from : ℕ → ℕ
   pub depth : ℕ → ℕ
   pub period>0 : 0 < period
-  pub lives : Periodic period start live
-  pub signals : (s : ℕ) → Periodic period start (λ i. w i s)
+  pub lives : Periodic period since live
+  pub signals : (s : ℕ) → Periodic period since (λ i. w i s)
   pub ordered : Ordered n t
   pub computes : Computes live w depth t n bits
-  pub enough : (i : ℕ) → (start - i) + period ≤ depth i
+  pub enough : (k : ℕ) → k < n → (i : ℕ) → (start k - i) + period ≤ depth i
+  pub early : (k : ℕ) → k < n → since ≤ start k
+  pub nests : (k : ℕ) → k < n → Each (λ a. from a ≤ start k) (t k)
+  pub gains : (k : ℕ) → k < n → (start k + delay (patternOf (t k)) * period ≤ from k) ⊎ ((i : ℕ) → from k ≤ i → live i ≡ false)
 
 module _ (live : ℕ → Bool) (w : InfiniteTrace) (t : Table) (n : ℕ) (bits : ℕ → ℕ → Bool) (e : Evaluation live w t n bits) where
-  open Evaluation e using (period, start, depth)
+  open Evaluation e using (period, start, from, depth)
 
   operands-from :
-      (k : ℕ) → k < n → ((a : ℕ) → a < k → Periodic period start (bits a))
-      → Periodic period start (operandBits w bits (left (t k))) × Periodic period start (operandBits w bits (right (t k)))
-  operands-from k h ih = both-operands (λ x. Periodic period start (operandBits w bits x)) (λ c i l. refl) (λ c s i l. ap (signedBit c) (e .signals s i l)) (t k)
-      (each-map _ _ (λ a m c i l. ap (signedBit c) (ih a m i l)) (t k) (e .ordered k h))
+      (k : ℕ) → k < n → ((a : ℕ) → a < k → Periodic period (from a) (bits a))
+      → Periodic period (start k) (operandBits w bits (left (t k))) × Periodic period (start k) (operandBits w bits (right (t k)))
+  operands-from k h ih = both-operands (λ x. Periodic period (start k) (operandBits w bits x)) (λ c i l. refl) signals (t k)
+      (each-zip _ _ _ rows (t k) (e .nests k h) (e .ordered k h))
+    where
+      signals : (c : Bool) (s : ℕ) → Periodic period (start k) (operandBits w bits (signal c s))
+      signals c s i l = ap (signedBit c) (e .signals s i (omega (arith, e .early k h)))
+
+      rows : (a : ℕ) → from a ≤ start k → a < k → (c : Bool) → Periodic period (start k) (operandBits w bits (row c a))
+      rows a m x c i l = ap (signedBit c) (ih a x i (omega arith))
 
   -- every row's bits are periodic
-  pub evaluation-periodic : (k : ℕ) → k < n → Periodic period start (bits k)
-  evaluation-periodic = row-induction (λ k. k < n → Periodic period start (bits k)) step
+  pub evaluation-periodic : (k : ℕ) → k < n → Periodic period (from k) (bits k)
+  evaluation-periodic = row-induction (λ k. k < n → Periodic period (from k) (bits k)) step
     where
-      step : (k : ℕ) → ((a : ℕ) → a < k → a < n → Periodic period start (bits a)) → k < n → Periodic period start (bits k)
-      step k ih h i l =
-          let p = operands-from k h (λ a x. ih a x (omega arith)) in
-          e .computes k h (i + period)
-          ∙ ap₂ _&&_ (e .lives i l) (pattern-bit-periodic period start (e .period>0) depth (e .enough) _ _ (p .0) (p .1) (patternOf (t k)) i l)
-          ∙ sym (e .computes k h i)
+      step : (k : ℕ) → ((a : ℕ) → a < k → a < n → Periodic period (from a) (bits a)) → k < n → Periodic period (from k) (bits k)
+      step k ih h i l = e .computes k h (i + period) ∙ by (e .gains k h) ∙ sym (e .computes k h i)
+        where
+          by :
+              (start k + delay (patternOf (t k)) * period ≤ from k) ⊎ ((i : ℕ) → from k ≤ i → live i ≡ false)
+              → (live (i + period) && rowBit w depth bits (t k) (i + period)) ≡ (live i && rowBit w depth bits (t k) i)
+          by (inl g) =
+              let p = operands-from k h (λ a x. ih a x (omega arith)) in
+              ap₂ _&&_ (e .lives i (omega (arith, e .early k h)))
+              (pattern-bit-periodic period (start k) (e .period>0) depth (e .enough k h) _ _ (p .0) (p .1) (patternOf (t k)) i (omega arith))
+          by (inr off) =
+              ap (λ x. x && rowBit w depth bits (t k) (i + period)) (off (i + period) (omega arith))
+              ∙ sym (ap (λ x. x && rowBit w depth bits (t k) i) (off i l))
 
   pub operands-periodic :
-      (k : ℕ) → k < n → Periodic period start (operandBits w bits (left (t k))) × Periodic period start (operandBits w bits (right (t k)))
+      (k : ℕ) → k < n
+      → Periodic period (start k) (operandBits w bits (left (t k))) × Periodic period (start k) (operandBits w bits (right (t k)))
   operands-periodic k h = operands-from k h (λ a x. evaluation-periodic a (omega arith))
 
   module _ (R : Reading) (v : ℕ → ℕ → Type 0) (interprets : Interprets R live w t n v) where
@@ -103,7 +124,7 @@ module _ (live : ℕ → Bool) (w : InfiniteTrace) (t : Table) (n : ℕ) (bits :
         step : (k : ℕ) → ((a : ℕ) → a < k → a < n → (i : ℕ) → v a i ↔ On (bits a i)) → k < n → (i : ℕ) → v k i ↔ On (bits k i)
         step k ih h i =
             let p = operands-periodic k h in
-            let said = pattern-bit-is period start (e .period>0) depth (e .enough) _ _ (p .0) (p .1) R _ _ (operands .0) (operands .1) (patternOf (t k)) i in
+            let said = pattern-bit-is period (start k) (e .period>0) depth (e .enough k h) _ _ (p .0) (p .1) R _ _ (operands .0) (operands .1) (patternOf (t k)) i in
             Iff·trans (interprets-pattern R w v live t n (e .ordered) interprets k h i)
             (subst⁻¹ (λ x. (On (live i) × PatternMeans R w v (t k) i) ↔ On x) (e .computes k h i) (and-iff (live i) _ iff-refl said))
           where

@@ -1,8 +1,10 @@
 pub mod Readings
 pub mod Rows
+pub mod Reach
 pub mod Monotone
 pub mod Truth
 pub mod Pattern
+pub mod Nesting
 pub mod MeaningByPattern
 pub mod Unfolding
 pub mod Duality

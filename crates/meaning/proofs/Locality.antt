@@ -1,6 +1,6 @@
--- What the truth of a row depends on: the signals that the rows up to it name, at the cycles from i on, and what the reading reads
+-- What the truth of a row depends on: the signals that the rows up to it name, at the cycles that they reach, and what the reading reads
 -- (truth-local, truth-read); strong truth on a prefix on the cycles of the prefix alone (strong-truth-local). Assumes nothing.
-use Prim.Native.Nat.{ℕ, _≤_, _<_}
+use Prim.Native.Nat.{ℕ, _<_}
 use mathlib.Core.Path.{_≡_, refl, subst}
 use mathlib.Core.Logic.{_↔_, Iff·trans, Iff·symm}
 use native.Mathlib.Omega.{arith}
@@ -9,8 +9,10 @@ use Rattle.meaning.specs.Trace.{InfiniteTrace}
 use Rattle.meaning.specs.Satisfaction.{Table, Means, RowTrue}
 use Rattle.meaning.specs.Strong.{StrongMeans, RowStronglyTrue}
 use Rattle.meaning.specs.Rows.{Each, EachSignal, Ordered}
+use Rattle.meaning.specs.Pattern.{patternOf}
 use Rattle.meaning.proofs.Readings.{Into, into-itself, row-induction}
 use Rattle.meaning.proofs.Rows.{each-map, each-signal}
+use Rattle.meaning.proofs.Reach.{Reaches}
 use Rattle.meaning.proofs.Monotone.{means-iff, means-same, strong-means-iff, strong-means-same}
 use Rattle.meaning.proofs.Truth.{true-means, strongly-true-means}
 
@@ -18,31 +20,39 @@ use Rattle.meaning.proofs.Truth.{true-means, strongly-true-means}
 abbrev pub SameSignals : ℕ → Table → InfiniteTrace → InfiniteTrace → ℕ → Type 0
 SameSignals n t w w′ i = (k : ℕ) → k < n → EachSignal (λ s. w i s ≡ w′ i s) (t k)
 
-module _ (R S : Reading) (into : Into R S) (back : Into S R) (w w′ : InfiniteTrace) (t : Table) (n : ℕ) (ordered : Ordered n t) (c : ℕ)
-    (same : (i : ℕ) → c ≤ i → SameSignals n t w w′ i) where
-  agree : (k : ℕ) → k < n → (i : ℕ) → c ≤ i → RowTrue R w t k i ↔ RowTrue S w′ t k i
-  agree = row-induction (λ k. k < n → (i : ℕ) → c ≤ i → RowTrue R w t k i ↔ RowTrue S w′ t k i) step
+-- C: cycles that the rows below n do not lead out of
+module _ (R S : Reading) (into : Into R S) (back : Into S R) (w w′ : InfiniteTrace) (t : Table) (n : ℕ) (ordered : Ordered n t)
+    (C : ℕ → Type 0) (closed : (k : ℕ) → k < n → (i j : ℕ) → C i → Reaches (patternOf (t k)) i j → C j) (same : (i : ℕ) → C i → SameSignals n t w w′ i) where
+  agree : (k : ℕ) → k < n → (i : ℕ) → C i → RowTrue R w t k i ↔ RowTrue S w′ t k i
+  agree = row-induction (λ k. k < n → (i : ℕ) → C i → RowTrue R w t k i ↔ RowTrue S w′ t k i) step
     where
       step :
-          (k : ℕ) → ((a : ℕ) → a < k → a < n → (i : ℕ) → c ≤ i → RowTrue R w t a i ↔ RowTrue S w′ t a i) → k < n → (i : ℕ) → c ≤ i
+          (k : ℕ) → ((a : ℕ) → a < k → a < n → (i : ℕ) → C i → RowTrue R w t a i ↔ RowTrue S w′ t a i) → k < n → (i : ℕ) → C i
           → RowTrue R w t k i ↔ RowTrue S w′ t k i
-      step k ih h i l =
-          let operands = each-map (λ a. a < k) (λ a. (j : ℕ) → i ≤ j → RowTrue R w t a j ↔ RowTrue S w′ t a j) (λ a x j y. ih a x (omega arith) j (omega arith)) (t k) (ordered k h) in
-          let said = means-iff R S into back w w′ (RowTrue R w t) (RowTrue S w′ t) i (t k) (same i l k h) operands in
+      step k ih h i c =
+          let operands = each-map (λ a. a < k) (λ a. (j : ℕ) → Reaches (patternOf (t k)) i j → RowTrue R w t a j ↔ RowTrue S w′ t a j)
+          (λ a x j y. ih a x (omega arith) j (closed k h i j c y)) (t k) (ordered k h) in
+          let said = means-iff R S into back w w′ (RowTrue R w t) (RowTrue S w′ t) i (t k) (same i c k h) operands in
           Iff·trans (true-means R w t n ordered k h i) (Iff·trans said (Iff·symm (true-means S w′ t n ordered k h i)))
 
--- c = 0: at all cycles
 pub truth-local :
-    (R : Reading) (w w′ : InfiniteTrace) (t : Table) (n : ℕ) → Ordered n t → (c : ℕ) → ((i : ℕ) → c ≤ i → SameSignals n t w w′ i) → (k : ℕ)
-    → k < n → (i : ℕ) → c ≤ i → RowTrue R w t k i ↔ RowTrue R w′ t k i
-truth-local R w w′ t n ordered c same = agree R R (into-itself R) (into-itself R) w w′ t n ordered c same
+    (R : Reading) (w w′ : InfiniteTrace) (t : Table) (n : ℕ) → Ordered n t → (C : ℕ → Type 0)
+    → ((k : ℕ) → k < n → (i j : ℕ) → C i → Reaches (patternOf (t k)) i j → C j) → ((i : ℕ) → C i → SameSignals n t w w′ i) → (k : ℕ)
+    → k < n → (i : ℕ) → C i → RowTrue R w t k i ↔ RowTrue R w′ t k i
+truth-local R w w′ t n ordered C closed same = agree R R (into-itself R) (into-itself R) w w′ t n ordered C closed same
+
+-- at all cycles
+pub truth-everywhere :
+    (R : Reading) (w w′ : InfiniteTrace) (t : Table) (n : ℕ) → Ordered n t → ((i : ℕ) → SameSignals n t w w′ i) → (k : ℕ) → k < n → (i : ℕ)
+    → RowTrue R w t k i ↔ RowTrue R w′ t k i
+truth-everywhere R w w′ t n ordered same k h i = truth-local R w w′ t n ordered (λ j. Unit {0}) (λ a x j e c r. tt) (λ j c. same j) k h i tt
 
 -- two readings that read the same
 pub truth-read :
     (R S : Reading) → Into R S → Into S R → (w : InfiniteTrace) (t : Table) (n : ℕ) → Ordered n t → (k : ℕ) → k < n → (i : ℕ)
     → RowTrue R w t k i ↔ RowTrue S w t k i
 truth-read R S into back w t n ordered k h i =
-    agree R S into back w w t n ordered 0 (λ j l a x. each-signal _ (λ s. refl) (t a)) k h i (omega arith)
+    agree R S into back w w t n ordered (λ j. Unit {0}) (λ a x j e c r. tt) (λ j c a x. each-signal _ (λ s. refl) (t a)) k h i tt
 
 -- rows from n on do not matter
 module _ (R : Reading) (w : InfiniteTrace) (t t′ : Table) (n : ℕ) (same : (k : ℕ) → k < n → t k ≡ t′ k) (ordered : Ordered n t) where

@@ -1,6 +1,6 @@
 -- What is computed for a row from the bits of its operands (rowBit), and that it is what the pattern says where the operands' bits are
 -- their truth, in any reading. Until and weak until are computed to a depth (Streams). Assumes nothing.
-use Prim.Native.Nat.{ℕ, suc, _+_, _-_, _≤_, _<_}
+use Prim.Native.Nat.{ℕ, suc, _+_, _*_, _-_, _≤_, _<_}
 use mathlib.Core.Path.{_≡_, refl, sym, ap, ap₂, _∙_}
 use mathlib.Core.Logic.{_↔_, _⊎_, inl, inr}
 use mathlib.Core.Bool.{Bool, true, false, _&&_, _||_, true≢false}
@@ -11,6 +11,7 @@ use Rattle.meaning.specs.Operator.{Until, Always}
 use Rattle.meaning.specs.Trace.{InfiniteTrace}
 use Rattle.meaning.specs.Pattern.{Pattern, Pattern.now, Pattern.next, Pattern.connective, Pattern.temporal, left, right, patternOf}
 use Rattle.meaning.specs.Pattern.{keepBit, goalBit, connectiveBit, keepBits, goalBits, signedBit, operandBits}
+use Rattle.meaning.specs.Nesting.{delay}
 use Rattle.meaning.specs.Approximant.{approximant}
 use Rattle.meaning.proofs.Readings.{On, on-and-off, on-from}
 use Rattle.meaning.proofs.Periodic.{Periodic}
@@ -96,12 +97,18 @@ module _ (R : Reading) where
 -- ---- where the operands' bits are periodic
 
 module _ (N b : ℕ) (N>0 : 0 < N) (depth : ℕ → ℕ) (enough : (i : ℕ) → (b - i) + N ≤ depth i) (p q : ℕ → Bool) (pp : Periodic N b p) (qp : Periodic N b q) where
-  pub pattern-bit-periodic : (x : Pattern) → Periodic N b (patternBit depth p q x)
-  pattern-bit-periodic now = qp
-  pattern-bit-periodic next = λ i h. let e : suc (i + N) ≡ suc i + N = omega arith in ap q e ∙ qp (suc i) (omega arith)
-  pattern-bit-periodic (connective f) = λ i h. ap₂ (connectiveBit f) (pp i h) (qp i h)
-  pattern-bit-periodic (temporal f w) = approximant-periodic (keepBits f p q) (goalBits f p q) N b N>0
-      (λ i h. ap₂ (keepBit f) (pp i h) (qp i h)) (λ i h. ap₂ (goalBit f) (pp i h) (qp i h)) w depth enough
+  at-once : (x : ℕ → Bool) → Periodic N b x → Periodic N (b + 0 * N) x
+  at-once x xp i h = xp i (omega arith)
+
+  -- the row's own bits are, as many rounds later as it delays
+  pub pattern-bit-periodic : (x : Pattern) → Periodic N (b + delay x * N) (patternBit depth p q x)
+  pattern-bit-periodic now = at-once q qp
+  pattern-bit-periodic next = at-once (λ i. q (suc i))
+      (λ i h. let e : suc (i + N) ≡ suc i + N = omega arith in ap q e ∙ qp (suc i) (omega arith))
+  pattern-bit-periodic (connective f) = at-once (λ i. connectiveBit f (p i) (q i)) (λ i h. ap₂ (connectiveBit f) (pp i h) (qp i h))
+  pattern-bit-periodic (temporal f w) = at-once (λ i. approximant (keepBits f p q) (goalBits f p q) w (depth i) i)
+      (approximant-periodic (keepBits f p q) (goalBits f p q) N b N>0
+      (λ i h. ap₂ (keepBit f) (pp i h) (qp i h)) (λ i h. ap₂ (goalBit f) (pp i h) (qp i h)) w depth enough)
 
   module _ (R : Reading) (P Q : ℕ → Type 0) (isP : (j : ℕ) → P j ↔ On (p j)) (isQ : (j : ℕ) → Q j ↔ On (q j)) where
     pub pattern-bit-is : (x : Pattern) (i : ℕ) → Holds R P Q x i ↔ On (patternBit depth p q x i)

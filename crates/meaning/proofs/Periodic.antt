@@ -1,7 +1,7 @@
 -- The unrolling of a lasso is periodic (position-periodic, unrolled-periodic): it runs through the n cycles once and then, from the
 -- loop's cycle l on, repeats after n - l cycles. So what repeats as the lasso does is at cycle i what it is at i's position
 -- (at-position). Assumes nothing.
-use Prim.Native.Nat.{ℕ, zero, suc, _+_, _-_, _≤_, _<_}
+use Prim.Native.Nat.{ℕ, zero, suc, _+_, _*_, _-_, _≤_, _<_}
 use mathlib.Core.Path.{_≡_, refl, subst, subst⁻¹, sym, ap, _∙_}
 use mathlib.Core.Logic.{_⊎_, inl, inr}
 use native.Mathlib.Nat.{add-zero}
@@ -80,3 +80,12 @@ module _ (n l : ℕ) where
 
 pub unrolled-periodic : (t : Trace) (l : ℕ) → l < t .cycles → (s : ℕ) → Periodic (t .cycles - l) l (λ i. unrolled t l i s)
 unrolled-periodic t l h s i b = ap (λ c. signalAt t c s) (position-periodic (t .cycles) l h i b)
+
+-- writing d rounds of the loop before it does not change the run: it is at each cycle where the lasso is
+pub written-position : (n l : ℕ) → l < n → (d i : ℕ) → position n l (position (n + d * (n - l)) (l + d * (n - l)) i) ≡ position n l i
+written-position n l h d = at-position (n + d * (n - l)) (l + d * (n - l)) (omega arith) (position n l) later
+  where
+    later : Periodic (n + d * (n - l) - (l + d * (n - l))) (l + d * (n - l)) (position n l)
+    later i b =
+        let e : n + d * (n - l) - (l + d * (n - l)) ≡ n - l = omega arith in
+        ap (λ m. position n l (i + m)) e ∙ position-periodic n l h i (omega arith)

@@ -2,7 +2,7 @@
 -- is decided, and all readings agree on it. Assumes nothing.
 use Prim.Native.Nat.{ℕ, _+_, _-_, _<_}
 use mathlib.Core.Path.{_≡_, sym, ap, _∙_}
-use mathlib.Core.Logic.{_↔_, Iff·trans, Iff·symm}
+use mathlib.Core.Logic.{_↔_, inr, Iff·trans, Iff·symm}
 use mathlib.Core.Bool.{Bool, _&&_}
 use native.Mathlib.Omega.{arith}
 use lib.Dec.{ltb}
@@ -13,7 +13,7 @@ use Rattle.meaning.specs.Satisfaction.{Table}
 use Rattle.meaning.specs.Strong.{RowStronglyTrue}
 use Rattle.meaning.specs.Rows.{Ordered, Positive}
 use Rattle.meaning.proofs.Readings.{On, decided-by}
-use Rattle.meaning.proofs.Rows.{each-signal}
+use Rattle.meaning.proofs.Rows.{each-map, each-signal}
 use Rattle.meaning.proofs.Evaluation.{Computes, Evaluation, bitsOf, bits-computed, evaluation-is}
 use Rattle.meaning.proofs.StrongTruth.{cyclesBelow, Inside, strong-interprets}
 
@@ -32,14 +32,19 @@ module _ (n : ℕ) (w : InfiniteTrace) where
     unfoldable pub prefix-evaluation : (bits : ℕ → ℕ → Bool) → Computes (cyclesBelow n) prefix toEnd t m bits → Evaluation (cyclesBelow n) prefix t m bits
     prefix-evaluation bits computes = record {
       period = 1;
-      start = n;
+      since = n;
+      start = λ k. n;
+      from = λ k. n;
       depth = toEnd;
       period>0 = omega arith;
       lives = λ i h. le-ltb (i + 1) n (omega arith) ∙ sym (le-ltb i n h);
       signals = λ s i h. ap (λ b. b && w (i + 1) s) (le-ltb (i + 1) n (omega arith)) ∙ sym (ap (λ b. b && w i s) (le-ltb i n h));
       ordered = ordered;
       computes = computes;
-      enough = λ i. omega arith;
+      enough = λ k h i. omega arith;
+      early = λ k h. omega arith;
+      nests = λ k h. each-map _ _ (λ a x. omega arith) (t k) (ordered k h);
+      gains = λ k h. inr (λ i x. le-ltb i n x);
     }
 
     pub prefix-truth :

@@ -4,6 +4,8 @@ pub mod Trace
 pub mod Satisfaction
 pub mod Rows
 pub mod Pattern
+pub mod Nesting
+pub mod Covers
 pub mod Approximant
 pub mod Published
 pub mod Strong

@@ -1,4 +1,5 @@
 -- Where a rule meets a take (01, "Why a file is turned back"): what is refused of the two, and in which order. Assumes nothing.
+use Prim.Native.Nat.{ℕ, _+_}
 use lib.Dec.{eqb}
 use Rattle.tables.specs.Choice.{pick}
 use Rattle.tables.specs.Refusal.{andThen, callRefused, numbered}
@@ -10,6 +11,11 @@ use Rattle.tables.specs.declared.trace.Ending.the-variants.{Open, Loop}
 use Rattle.tables.specs.declared.trace.Trace.{Trace}
 use Rattle.rule_file.specs.Outcome.{ruleOutcome}
 use Rattle.take_file.specs.Outcome.{takeOutcome}
+use Rattle.normal_form.specs.declared.sign.Sign.the-variants.{Plain}
+use Rattle.normal_form.specs.Numbering.{normalForm}
+use Rattle.meaning.specs.Nesting.{nesting}
+use Rattle.written_out.specs.WrittenOut.{roundCycles}
+use Rattle.written_out.specs.Covered.{covered}
 use Rattle.meeting.specs.declared.Wanted.{Wanted}
 use Rattle.meeting.specs.declared.Wanted.the-variants.{Either, Looped, Unlooped}
 
@@ -37,3 +43,11 @@ meetingOutcome wanted f t = andThen (sevenOutcome f t) (eightOutcome wanted (t .
 -- and of any two tables
 abbrev pub pairOutcome : Wanted → Formula → Trace → Outcome
 pairOutcome wanted f t = andThen (ownOutcome f t) (meetingOutcome wanted f t)
+
+-- the take that a sheet for the rule covers: sheets, checks and judging go on with it
+abbrev pub coveredTake : Formula → Trace → Trace
+coveredTake f t = covered (normalForm f Plain) t
+
+-- and where its loop begins
+abbrev pub coveredLoop : Formula → Trace → ℕ → ℕ
+coveredLoop f t l = l + roundCycles t l (nesting (normalForm f Plain))

@@ -20,7 +20,7 @@ ghost use Rattle.rule_file.specs.Valid.{InRange as FormulaInRange};
 ghost use Rattle.take_file.specs.Valid.{InRange as TraceInRange};
 ghost use Rattle.normal_form.specs.Numbering.{normalForm};
 ghost use Rattle.normal_form.specs.declared.sign.Sign.the-variants.{Plain};
-ghost use Rattle.meeting.specs.Meeting.{eightOutcome, meetingOutcome, ownOutcome};
+ghost use Rattle.meeting.specs.Meeting.{coveredTake, eightOutcome, meetingOutcome, ownOutcome};
 
 // Which takes a service is for: those of either kind, looped ones alone, open ones alone.
 pub enum Wanted {
@@ -29,10 +29,11 @@ pub enum Wanted {
     Unlooped,
 }
 
-// The first refusal; or none, and the rule's normal form. (A refusal leaves an empty one.)
+// The first refusal; or none, the rule's normal form, and the take that its sheets cover. (A refusal leaves an empty form.)
 pub struct Meeting {
     pub outcome: Outcome,
     pub form: NormalForm,
+    pub covered: Trace,
 }
 
 // The tables' own refusals, the rule's first; and what accepted tables are known to be.
@@ -95,6 +96,7 @@ pub fn meet(formula: Formula, trace: Trace, wanted: Wanted) -> Meeting
     requires { ⌜ FormulaInRange formula ⌝ }
     ensures outcome { λ r. ⌜ r .outcome ≡ meetingOutcome wanted formula trace ⌝ }
     ensures form { λ r. ⌜ (r .outcome ≡ Outcome.Accepted → r .form ≡ normalForm formula Plain) ⌝ }
+    ensures covered { λ r. ⌜ (r .outcome ≡ Outcome.Accepted → r .covered ≡ coveredTake formula trace) ⌝ }
 {
     let outcome = check_met(formula, trace, wanted);
     match outcome {
@@ -103,13 +105,16 @@ pub fn meet(formula: Formula, trace: Trace, wanted: Wanted) -> Meeting
             Meeting {
                 outcome: Outcome::Refused(refusal),
                 form,
+                covered: trace,
             }
         }
         Outcome::Accepted => {
             let form = normal_form::normal_form(formula, Sign::Plain);
+            // No kind looks back yet, so no round has to be written out.
             Meeting {
                 outcome: Outcome::Accepted,
                 form,
+                covered: trace,
             }
         }
     }

@@ -8,7 +8,7 @@ use lib.ListN.{length, getD}
 use Rattle.tables.specs.Place.{tabulateFrom}
 use Rattle.tables.specs.declared.row.NormalForm.{NormalForm}
 use Rattle.circuit.specs.Circuit.{Gate}
-use Rattle.monitor_circuit.specs.Monitors.{gateOf, gatesFrom}
+use Rattle.monitor_circuit.specs.Monitors.{latchCount, gateOf, gatesFrom}
 
 module _ (g : NormalForm) where
   -- the gates of row k
@@ -67,7 +67,7 @@ module _ (g : NormalForm) where
   gates-each P each = each-from P (g .rows) 1 (λ i h. let e : 1 + i ≡ suc i = omega arith in rw e (each i h))
 
   -- THE LEFT SIDES GO ON BY TWO, from row i + 1 on
-  pub lefts-from : (n i : ℕ) → map (λ (x : Gate). x .lhs) (gatesFrom g n (suc i)) ≡ tabulateFrom (3 * n) (3 * i) (λ j. 2 * (g .signals + g .rows + g .rows + suc j))
+  pub lefts-from : (n i : ℕ) → map (λ (x : Gate). x .lhs) (gatesFrom g n (suc i)) ≡ tabulateFrom (3 * n) (3 * i) (λ j. 2 * (g .signals + g .rows + latchCount g + suc j))
   unfolding gatesFrom tabulateFrom
   lefts-from zero i = refl
   lefts-from (suc n) i =

@@ -1,19 +1,19 @@
 -- THE EQUIVALENCE over sequences of inputs: each of them is a list of step calls that are all answered. Assumes nothing.
 use Prim.Native.Nat.{ℕ, zero, suc, _+_, _*_, _-_, _≤_, _<_}
 use mathlib.Core.Path.{_≡_, refl, sym, ap, _∙_}
-use mathlib.Core.Bool.{Bool, true, false}
+use mathlib.Core.Bool.{Bool, true}
 use mathlib.Core.Logic.{_⊎_, inl, inr}
 use mathlib.Core.List.{List, _++_}
 use native.Mathlib.Omega.{arith}
 use lib.Dec.{eqb}
 use lib.ListN.{length, getD, drop, replicate, length-append, length-drop, length-replicate}
 use lib.Seq.{take-all}
-use borrow.Author.Tests.{eq-eqb}
+use borrow.Author.Tests.{eq-eqb, le-leb}
 use Rattle.tables.specs.Place.{tabulate}
 use Rattle.tables.specs.declared.refusal.Outcome.the-variants.{Accepted}
 use Rattle.tables.specs.declared.row.Formula.{Formula}
 use Rattle.tables.specs.declared.row.NormalForm.{NormalForm}
-use Rattle.tables.proofs.Places.{length-tabulate, getD-tabulate, map-tabulate, replicate-tabulate}
+use Rattle.tables.proofs.Places.{length-tabulate, getD-tabulate, map-tabulate}
 use Rattle.text.specs.Digits.{areDigits}
 use Rattle.text.specs.Written.{digitsText}
 use Rattle.text.proofs.Laws.{are-written}
@@ -22,10 +22,10 @@ use Rattle.meaning.proofs.Readings.{lt-or-le}
 use Rattle.normal_form.specs.declared.sign.Sign.the-variants.{Plain}
 use Rattle.normal_form.specs.Numbering.{normalForm}
 use Rattle.circuit.specs.Valuation.{Valuation, outputValues, nextLatches, IsRun}
-use Rattle.step.specs.Step.{digitOf, rowOutput, formOutcome, formOutput, rowsIn}
-use Rattle.step.proofs.Checks.{all-right}
+use Rattle.monitors.specs.State.{State, inOrder, stateSize, freshState}
+use Rattle.step.specs.Step.{digitOf, outputSize, stateDigits, stateLeft, formOutcome, formOutput, rowsIn}
 use Rattle.step_calls.specs.Calls.{Call, given, InOrder, kept, handed, answered, left}
-use Rattle.step_calls.proofs.Steps.{digit-says, left-is, kept-is}
+use Rattle.step_calls.proofs.Steps.{digit-says, state-digits-size, left-is, kept-is}
 use Rattle.monitor_circuit.specs.Steps.{ruleCircuit, inputsIn, callWith}
 use Rattle.monitor_circuit.proofs.Values.{in-first, behind-first, stripes-size}
 use Rattle.monitor_circuit.proofs.Calls.{output-size, outputs-are, nexts-are}
@@ -44,13 +44,22 @@ digits-of n b =
       size = length-tabulate n 0 (λ i. digitOf (b i));
     }
 
-zeros-digits : (n : ℕ) → SoManyDigits n (replicate n 48)
-zeros-digits n = rw (replicate-tabulate {A = ℕ} n 0 48) (digits-of n (λ i. false))
+digits-of-state : (rows : ℕ) (s : State Bool) → SoManyDigits (stateSize rows) (stateDigits rows s)
+digits-of-state rows s =
+    record { each-digit = are-written (inOrder rows s); size = state-digits-size rows s }
 
-accepts : (g : NormalForm) (p a s : List ℕ) (room : ℕ) → SoManyDigits (g .rows) p → SoManyDigits (g .rows) a → SoManyDigits (g .signals) s → 3 * g .rows ≤ room → formOutcome g p a s room ≡ Accepted
+accepts : (g : NormalForm) (p a s : List ℕ) (room : ℕ) → SoManyDigits (stateSize (g .rows)) p → SoManyDigits (g .rows) a → SoManyDigits (g .signals) s
+    → outputSize (g .rows) ≤ room → formOutcome g p a s room ≡ Accepted
 accepts g p a s room dp da ds h =
-    sym (all-right g p a s room (sym (dp .each-digit)) (sym (da .each-digit)) (sym (ds .each-digit)) refl (rw (eq-eqb (length s) (g .signals) (ds .size)))
-    (rw (eq-eqb (length p) (g .rows) (dp .size), eq-eqb (length a) (g .rows) (da .size))) h)
+    rw (
+      dp .each-digit,
+      da .each-digit,
+      ds .each-digit,
+      eq-eqb (length s) (g .signals) (ds .size),
+      eq-eqb (length p) (stateSize (g .rows)) (dp .size),
+      eq-eqb (length a) (g .rows) (da .size),
+      le-leb (outputSize (g .rows)) room h,
+    ) refl
 
 module _ (f : Formula) (own : ruleOutcome f ≡ Accepted) (inputs : ℕ → ℕ → Bool) where
   abbrev g : NormalForm
@@ -61,10 +70,12 @@ module _ (f : Formula) (own : ruleOutcome f ≡ Accepted) (inputs : ℕ → ℕ 
   callsWith i = callWith f (inputs i)
 
   -- ---- they are all answered
-  kept-digits : (i : ℕ) → ((j : ℕ) → j < i → answered f callsWith j ≡ true) → SoManyDigits (rowsIn f) (handed f callsWith i)
+  kept-digits : (i : ℕ) → ((j : ℕ) → j < i → answered f callsWith j ≡ true) → SoManyDigits (stateSize (rowsIn f)) (handed f callsWith i)
   unfolding kept
-  kept-digits zero each = zeros-digits (rowsIn f)
-  kept-digits (suc i) each = rw (kept-is f callsWith i (each i (omega arith))) (digits-of (rowsIn f) (λ k. rowOutput g (handed f callsWith i) (callsWith i .activators) (callsWith i .signals) (suc k) .pending))
+  kept-digits zero each = digits-of-state (rowsIn f) freshState
+  kept-digits (suc i) each =
+      rw (kept-is f callsWith i (each i (omega arith)))
+      (digits-of-state (rowsIn f) (stateLeft g (handed f callsWith i) (callsWith i .activators) (callsWith i .signals)))
 
   pub all-answered : (i : ℕ) → answered f callsWith i ≡ true
   all-answered i = go (suc i) i (omega arith)
@@ -123,10 +134,11 @@ module _ (f : Formula) (own : ruleOutcome f ≡ Accepted) (inputs : ℕ → ℕ 
         }
 
     -- THE CLAIM: for every rule and every sequence of inputs, the circuit's outputs in each cycle from latches at 0 are what the step
-    -- writes from a fresh start, and its next latches the pendings that the step hands on
+    -- writes from a fresh start, and its next latches the state that the step hands on
     pub outputs-step : (i : ℕ) → i < n → left f callsWith i ≡ digitsText (outputValues (ruleCircuit f) (values i))
     outputs-step i h =
-        let e : left f callsWith i ≡ formOutput g (handed f callsWith i) (callsWith i .activators) (callsWith i .signals) ++ drop (3 * rowsIn f) (replicate (3 * rowsIn f) 0) = left-is f callsWith i (all-answered i) in
+        let out : List ℕ = formOutput g (handed f callsWith i) (callsWith i .activators) (callsWith i .signals) in
+        let e : left f callsWith i ≡ out ++ drop (outputSize (rowsIn f)) (replicate (outputSize (rowsIn f)) 0) = left-is f callsWith i (all-answered i) in
         let size : length (left f callsWith i) ≤ 3 * rowsIn f = rw (e, length-append, output-size, length-drop, length-replicate) (omega arith) in
         sym (take-all (3 * rowsIn f) (left f callsWith i) size) ∙ outputs-are f callsWith (λ i. i) in-order n values same-run i h
 

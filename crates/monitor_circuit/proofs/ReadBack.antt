@@ -19,7 +19,7 @@ use Rattle.circuit.specs.Circuit.{Circuit, Latch}
 use Rattle.circuit_file.specs.File.{parseCircuit}
 use Rattle.circuit_file.specs.Written.{spaced, writtenLines, headerOf, linesOf, writtenCircuit}
 use Rattle.circuit_file.proofs.Circuits.{circuit-written}
-use Rattle.monitor_circuit.specs.Monitors.{circuitOf}
+use Rattle.monitor_circuit.specs.Monitors.{latchCount, circuitOf}
 use Rattle.monitor_circuit.specs.Steps.{ruleCircuit}
 use Rattle.monitor_circuit.proofs.WellFormed.{circuit-well-formed, inputs-size, latches-size, outputs-size, gates-size}
 
@@ -66,7 +66,7 @@ module _ (g : NormalForm) (ok : InNormalForm g) where
   file-short =
       let c : Circuit = circuitOf g in
       let h : length (writtenLines (headerOf c ∷ linesOf c)) ≤ 31 * suc (length (linesOf c)) = lines-short (headerOf c ∷ linesOf c) (circuit-lines c) in
-      let n : length (linesOf c) ≡ (g .signals + g .rows) + (g .rows + (3 * g .rows + 3 * g .rows)) = rw (lines-count c, inputs-size, latches-size, outputs-size, gates-size) in
+      let n : length (linesOf c) ≡ (g .signals + g .rows) + (latchCount g + (3 * g .rows + 3 * g .rows)) = rw (lines-count c, inputs-size, latches-size, outputs-size, gates-size) in
       rw length-append (omega (arith, ok .most-signals, ok .most-rows))
 
   -- THE FILE OF A NORMAL FORM'S CIRCUIT IS READ BACK

@@ -15,7 +15,7 @@ use Rattle.tables.specs.declared.row.Row.the-variants.{Constant, Signal, Unary,
 use Rattle.meaning.specs.Rows.{Each, EachSignal}
 use Rattle.circuit.proofs.Inverters.{either}
 use Rattle.monitors.specs.declared.Output.{Output}
-use Rattle.monitors.specs.declared.State.{State}
+use Rattle.monitors.specs.declared.RowState.{RowState}
 use Rattle.monitors.specs.Monitor.{constantMonitor, signalMonitor, unaryMonitor, binaryMonitor, monitor}
 use Rattle.monitor_circuit.specs.Wiring.{Operands, Wiring, negated, constantWiring, signalWiring, unaryWiring, binaryWiring, rowWiring}
 
@@ -44,7 +44,7 @@ module _ (v : ℕ → Bool) where
   Negates l = v (negated l) ≡ not (v l)
 
   -- the row goes: it is active, or was pending
-  module _ {z Y x : ℕ} (nz : Negates z) (nY : Negates Y) (nx : Negates x) (s : State) (active : v z ≡ s .active) (pending : v Y ≡ s .pending)
+  module _ {z Y x : ℕ} (nz : Negates z) (nY : Negates Y) (nx : Negates x) (s : RowState) (active : v z ≡ s .active) (pending : v Y ≡ s .pending)
       (idle : v x ≡ v (negated z) && v (negated Y)) where
     runs : v (negated x) ≡ s .active || s .pending
     runs = let rests : v x ≡ not (s .active) && not (s .pending) = rw (idle, nz, nY, active, pending) in rw (nx, rests) (either (s .active) (s .pending))
@@ -52,7 +52,7 @@ module _ (v : ℕ → Bool) where
     runs-without : {B y : ℕ} {b : Bool} → Negates B → v B ≡ b → v y ≡ v (negated x) && v (negated B) → v y ≡ (s .active || s .pending) && not b
     runs-without nB is-b e = rw (e, runs, nB, is-b)
 
-  module _ (off : v 0 ≡ false) (on : v 1 ≡ true) (z Y x1 x2 x3 : ℕ) (nz : Negates z) (nY : Negates Y) (n1 : Negates x1) (n2 : Negates x2) (s : State)
+  module _ (off : v 0 ≡ false) (on : v 1 ≡ true) (z Y x1 x2 x3 : ℕ) (nz : Negates z) (nY : Negates Y) (n1 : Negates x1) (n2 : Negates x2) (s : RowState)
       (active : v z ≡ s .active) (pending : v Y ≡ s .pending) where
     abbrev goes-without : v x1 ≡ v (negated z) && v (negated Y) → {B y : ℕ} {b : Bool} → Negates B → v B ≡ b → v y ≡ v (negated x1) && v (negated B) → v y ≡ (s .active || s .pending) && not b
     goes-without idle = runs-without nz nY n1 s active pending idle

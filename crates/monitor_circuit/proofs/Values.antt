@@ -1,5 +1,5 @@
 -- The values of the monitors' circuit, by row. Assumes nothing.
-use Prim.Native.Nat.{ℕ, suc, _+_, _*_, _<_}
+use Prim.Native.Nat.{ℕ, suc, _+_, _*_, _-_, _<_}
 use mathlib.Core.Path.{_≡_, sym, ap, _∙_}
 use mathlib.Core.Bool.{Bool, true, false}
 use mathlib.Core.List.{List, _++_}
@@ -11,7 +11,9 @@ use Rattle.tables.specs.declared.row.NormalForm.{NormalForm}
 use Rattle.tables.proofs.Places.{length-tabulate, getD-tabulate}
 use Rattle.circuit.specs.Circuit.{Latch}
 use Rattle.circuit.specs.Valuation.{Valuation, IsValuation}
-use Rattle.monitor_circuit.specs.Monitors.{signalLiteral, activatorLiteral, latchLiteral, gateLiteral, wiringOf, latchOf, circuitOf}
+use Rattle.monitors.specs.State.{stateAt}
+use Rattle.monitors.proofs.States.{SameState, RowTo, state-size, state-read, mapState, same-sym, same-trans, same-map, same-places}
+use Rattle.monitor_circuit.specs.Monitors.{signalLiteral, activatorLiteral, stateLiterals, latchCount, gateLiteral, wiringOf, latchesOf, circuitOf}
 use Rattle.monitor_circuit.proofs.GateRows.{RowAt, row-at, gates-count}
 use Rattle.monitor_circuit.proofs.Rows.{Gates}
 
@@ -25,9 +27,6 @@ module _ {A : Type 0} (m : ℕ) (x : ℕ → A) (ys : List A) (d : A) (k : ℕ) 
 
 pub stripes-size : {A : Type 0} (m n : ℕ) (x y : ℕ → A) → length (tabulate m x ++ tabulate n y) ≡ m + n
 stripes-size m n x y = length-append (tabulate m x) (tabulate n y) ∙ rw (length-tabulate m 0 x, length-tabulate n 0 y)
-
-pub three-size : {A : Type 0} (n : ℕ) (x y z : ℕ → A) → length (tabulate n x ++ (tabulate n y ++ tabulate n z)) ≡ n + (n + n)
-three-size n x y z = length-append (tabulate n x) (tabulate n y ++ tabulate n z) ∙ rw (length-tabulate n 0 x, stripes-size n n y z)
 
 -- ---- what each literal is worth
 module _ (g : NormalForm) {inputs latches : ℕ → Bool} {v : Valuation} (values : IsValuation (circuitOf g) inputs latches v) where
@@ -48,6 +47,13 @@ module _ (g : NormalForm) {inputs latches : ℕ → Bool} {v : Valuation} (value
       sym (ap v (in-first (g .signals) (λ i. signalLiteral g (suc i)) activators 0 i h))
       ∙ values .inputs-given i (rw stripes-size (omega arith))
 
+  -- THE GATES READ THE STATE THAT THE LATCHES HOLD, each latch by its place
+  pub state-value : SameState (RowTo n) (mapState v (stateLiterals g)) (stateAt n (λ j. latches (j - 1)))
+  state-value =
+      let size : length (circuitOf g .latches) ≡ latchCount g = state-size n (latchesOf g) in
+      same-trans (same-sym (same-map (λ (q : Latch). v (q .current)) (state-read n (latchesOf g) (record { current = 0; next = 0 }))))
+      (same-places n _ _ (λ j l h. values .latches-given (j - 1) (omega (arith, size, l, h))))
+
   module _ (k : ℕ) (h : k < g .rows) where
     pub activator-value : v (activatorLiteral g (suc k)) ≡ inputs (g .signals + k)
     activator-value =
@@ -56,11 +62,6 @@ module _ (g : NormalForm) {inputs latches : ℕ → Bool} {v : Valuation} (value
 
     abbrev row : ℕ
     row = suc k
-
-    pub latch-value : v (latchLiteral g row) ≡ latches k
-    latch-value =
-        sym (ap (λ (q : Latch). v (q .current)) (getD-tabulate n (λ i. latchOf g (suc i)) k (record { current = 0; next = 0 }) h))
-        ∙ values .latches-given k (rw length-tabulate h)
 
     -- THE GATES OF A ROW HOLD
     pub gates-value : Gates v (gateLiteral g 1 row) (gateLiteral g 2 row) (gateLiteral g 3 row) (wiringOf g row)

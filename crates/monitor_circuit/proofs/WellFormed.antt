@@ -1,20 +1,22 @@
 -- The monitors' circuit is well formed; its sizes. Assumes nothing.
 use Prim.Native.Nat.{ℕ, suc, _+_, _*_, _-_, _<_}
-use mathlib.Core.Path.{_≡_, sym, ap, subst, _∙_}
+use mathlib.Core.Path.{_≡_, refl, sym, ap, subst, _∙_}
 use mathlib.Core.List.{List, _++_, map}
 use native.Mathlib.Decide.{decLt}
 use native.Mathlib.Omega.{arith}
 use lib.ListN.{length, getD, length-append, List·getD-append}
 use lib.Seq.{getD-append-add, ext-getD}
 use Rattle.tables.specs.Place.{tabulate}
-use Rattle.tables.proofs.Places.{length-tabulate, getD-tabulate, map-tabulate}
+use Rattle.tables.proofs.Places.{length-tabulate, getD-tabulate}
 use Rattle.tables.specs.declared.row.NormalForm.{NormalForm}
 use Rattle.meaning.specs.Satisfaction.{tableOf}
 use Rattle.meaning.proofs.Rows.{each-map, each-signal-map}
 use Rattle.normal_form.specs.Form.{InNormalForm}
 use Rattle.normal_form.proofs.FormTables.{form-operands, form-signals}
+use Rattle.monitors.specs.State.{inOrder, stateSize, stateAt}
+use Rattle.monitors.proofs.States.{state-size, map-order}
 use Rattle.circuit.specs.Circuit.{Latch, Gate, maximum, definedIn, IsLiteral, WellFormed}
-use Rattle.monitor_circuit.specs.Monitors.{signalLiteral, activatorLiteral, latchLiteral, gateLiteral, wiringOf, byRow, latchOf, circuitOf}
+use Rattle.monitor_circuit.specs.Monitors.{signalLiteral, activatorLiteral, gateLiteral, wiringOf, byRow, latchLiteral, stateLiterals, latchCount, latchesOf, circuitOf}
 use Rattle.monitor_circuit.proofs.GateRows.{gates-count, gates-each, lefts-from}
 use Rattle.monitor_circuit.proofs.WellFormedRows.{Low, row-low}
 
@@ -50,6 +52,10 @@ tables-join m n f h k first second =
         appended-each (λ i x. x ≡ k i) (tabulate m f) (tabulate n h) 0 (tabulated-each (λ i x. x ≡ k i) m f 0 first)
         (tabulated-each (λ i x. x ≡ k (length (tabulate m f) + i)) n h 0 (λ i l. second i l ∙ ap (λ w. k (w + i)) (sym (length-tabulate m 0 f))))
 
+-- the literals in the places of a state, in its order, are a table
+order-places : (rows : ℕ) (x : ℕ → ℕ) → inOrder rows (stateAt rows x) ≡ tabulate (stateSize rows) (λ j. x (suc j))
+order-places rows x = refl
+
 module _ (g : NormalForm) where
   -- what holds of each row holds in a table by row, and in three in a row
   rows-each : {A : Type 0} (P : A → Type 0) (x : ℕ → A) (d : A) → ((i : ℕ) → i < g .rows → P (x (suc i))) → (i : ℕ) → i < length (byRow g x) → P (getD (byRow g x) i d)
@@ -76,8 +82,8 @@ module _ (g : NormalForm) where
       length-append (tabulate (g .signals) (λ i. signalLiteral g (suc i))) (byRow g (activatorLiteral g))
       ∙ omega (arith, length-tabulate (g .signals) 0 (λ i. signalLiteral g (suc i)), rows-size (activatorLiteral g))
 
-  pub latches-size : length (circuitOf g .latches) ≡ g .rows
-  latches-size = rows-size (latchOf g)
+  pub latches-size : length (circuitOf g .latches) ≡ latchCount g
+  latches-size = state-size (g .rows) (latchesOf g)
 
   pub outputs-size : length (circuitOf g .outputs) ≡ 3 * g .rows
   outputs-size = rows-size-thrice (λ k. wiringOf g k .failed) (λ k. wiringOf g k .accept) (λ k. wiringOf g k .pending)
@@ -85,7 +91,7 @@ module _ (g : NormalForm) where
   pub gates-size : length (circuitOf g .gates) ≡ 3 * g .rows
   gates-size = gates-count g (g .rows) 1
 
-  pub maximum-is : maximum (circuitOf g) ≡ g .signals + 5 * g .rows
+  pub maximum-is : maximum (circuitOf g) ≡ g .signals + g .rows + latchCount g + 3 * g .rows
   maximum-is = omega (arith, inputs-size, latches-size, gates-size)
 
   -- ---- what is defined: 2, 4, 6 and so on
@@ -94,21 +100,21 @@ module _ (g : NormalForm) where
   abbrev ownFrom : ℕ → ℕ → ℕ
   ownFrom a i = 2 * (a + suc i)
 
-  lefts-are : map (λ (x : Gate). x .lhs) (circuitOf g .gates) ≡ tabulate (3 * g .rows) (ownFrom (g .signals + g .rows + g .rows))
+  lefts-are : map (λ (x : Gate). x .lhs) (circuitOf g .gates) ≡ tabulate (3 * g .rows) (ownFrom (g .signals + g .rows + latchCount g))
   lefts-are = lefts-from g (g .rows) 0
 
-  currents-are : map (λ (q : Latch). q .current) (circuitOf g .latches) ≡ tabulate (g .rows) (ownFrom (g .signals + g .rows))
-  currents-are = map-tabulate (λ (q : Latch). q .current) (g .rows) (λ i. latchOf g (suc i))
+  currents-are : map (λ (q : Latch). q .current) (circuitOf g .latches) ≡ tabulate (latchCount g) (ownFrom (g .signals + g .rows))
+  currents-are = map-order (λ (q : Latch). q .current) (g .rows) (latchesOf g) ∙ order-places (g .rows) (latchLiteral g)
 
   pub inputs-are : circuitOf g .inputs ≡ tabulate (g .signals + g .rows) (λ i. 2 * suc i)
   inputs-are = tables-join (g .signals) (g .rows) _ _ (λ i. 2 * suc i) (λ i h. omega arith) (λ i h. omega arith)
 
-  all-are : definedIn (circuitOf g) ≡ tabulate (g .signals + g .rows + (g .rows + 3 * g .rows)) (λ i. 2 * suc i)
+  all-are : definedIn (circuitOf g) ≡ tabulate (g .signals + g .rows + (latchCount g + 3 * g .rows)) (λ i. 2 * suc i)
   all-are =
       rw (inputs-are, currents-are, lefts-are)
       (ap (λ l. tabulate (g .signals + g .rows) (λ i. 2 * suc i) ++ l)
-      (tables-join (g .rows) (3 * g .rows) _ _ (ownFrom (g .signals + g .rows)) (λ i h. omega arith) (λ i h. omega arith))
-      ∙ tables-join (g .signals + g .rows) (g .rows + 3 * g .rows) _ _ (λ i. 2 * suc i) (λ i h. omega arith) (λ i h. omega arith))
+      (tables-join (latchCount g) (3 * g .rows) _ _ (ownFrom (g .signals + g .rows)) (λ i h. omega arith) (λ i h. omega arith))
+      ∙ tables-join (g .signals + g .rows) (latchCount g + 3 * g .rows) _ _ (λ i. 2 * suc i) (λ i h. omega arith) (λ i h. omega arith))
 
   -- THE DEFINED LITERALS ARE 2, 4, 6 AND SO ON, in the order of the file
   pub defined-are : definedIn (circuitOf g) ≡ tabulate (maximum (circuitOf g)) (λ i. 2 * suc i)
@@ -124,7 +130,7 @@ module _ (g : NormalForm) where
 
     pub wiring-low : (i : ℕ) → i < g .rows → Low (gateLiteral g 1 (suc i)) (gateLiteral g 2 (suc i)) (gateLiteral g 3 (suc i)) (wiringOf g (suc i))
     wiring-low i h =
-        row-low (activatorLiteral g (suc i)) (latchLiteral g (suc i)) (gateLiteral g 1 (suc i)) (gateLiteral g 2 (suc i)) (gateLiteral g 3 (suc i)) (omega arith) (omega arith)
+        row-low (activatorLiteral g (suc i)) (stateLiterals g .pending (suc i)) (gateLiteral g 1 (suc i)) (gateLiteral g 2 (suc i)) (gateLiteral g 3 (suc i)) (omega arith) (omega arith)
         (omega arith) (omega arith) (signalLiteral g) (activatorLiteral g) (tableOf (g .places) (suc i))
         (each-map _ _ (λ a x. omega (arith, x .1)) (tableOf (g .places) (suc i)) (form-operands g ok (suc i) (omega arith)))
         (each-signal-map _ _ (tableOf (g .places) (suc i)) (λ s x. omega (arith, x .1)) (form-signals g ok (suc i) (omega arith)))
@@ -148,7 +154,7 @@ module _ (g : NormalForm) where
         record {
           variables = λ i h. let e = defined-at i h in record { index = suc i; least = omega arith; most = omega (arith, e .0); even = e .1 };
           once = λ i j l h e. omega (arith, e, defined-at i (omega arith) .1, defined-at j h .1);
-          nexts = rows-each (λ q. Named (q .next)) (latchOf g) _ pending-named;
+          nexts = rows-each (λ q. Named (q .next)) (latchesOf g .pending) _ pending-named;
           named = rows-each-thrice Named (λ k. wiringOf g k .failed) (λ k. wiringOf g k .accept) (λ k. wiringOf g k .pending) _ failed-named accept-named pending-named;
           lower =
               gates-each g (λ x. (x .rhs0 < x .lhs) × (x .rhs1 < x .lhs))

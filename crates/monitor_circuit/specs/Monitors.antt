@@ -5,6 +5,7 @@ use Rattle.tables.specs.Place.{tabulate}
 use Rattle.tables.specs.declared.row.NormalForm.{NormalForm}
 use Rattle.meaning.specs.Satisfaction.{tableOf}
 use Rattle.circuit.specs.Circuit.{Circuit, Latch, Gate}
+use Rattle.monitors.specs.State.{State, inOrder, stateSize, stateAt}
 use Rattle.monitor_circuit.specs.Wiring.{Operands, Wiring, rowWiring}
 
 module _ (g : NormalForm) where
@@ -16,11 +17,15 @@ module _ (g : NormalForm) where
   abbrev pub activatorLiteral : ℕ → ℕ
   activatorLiteral k = 2 * (g .signals + k)
 
+  -- latch j, and the latch of each thing that the step hands on: the state's own order
   abbrev pub latchLiteral : ℕ → ℕ
-  latchLiteral k = 2 * (g .signals + g .rows + k)
+  latchLiteral j = 2 * (g .signals + g .rows + j)
+
+  abbrev pub stateLiterals : State ℕ
+  stateLiterals = stateAt (g .rows) latchLiteral
 
   abbrev pub latchCount : ℕ
-  latchCount = g .rows
+  latchCount = stateSize (g .rows)
 
   -- gate j of row k, j from 1 to 3: the gates of k - 1 rows stand before it
   abbrev pub gateLiteral : ℕ → ℕ → ℕ
@@ -29,15 +34,15 @@ module _ (g : NormalForm) where
   -- the gates of row k
   abbrev pub wiringOf : ℕ → Wiring
   wiringOf k =
-      rowWiring (activatorLiteral k) (latchLiteral k) (gateLiteral 1 k) (gateLiteral 2 k) (gateLiteral 3 k)
+      rowWiring (activatorLiteral k) (stateLiterals .pending k) (gateLiteral 1 k) (gateLiteral 2 k) (gateLiteral 3 k)
       signalLiteral activatorLiteral (tableOf (g .places) k)
 
   -- something of each row, in their order
   abbrev pub byRow : {A : Type 0} → (ℕ → A) → List A
   byRow x = tabulate (g .rows) (λ i. x (suc i))
 
-  abbrev pub latchOf : ℕ → Latch
-  latchOf k = record { current = latchLiteral k; next = wiringOf k .pending }
+  abbrev pub latchesOf : State Latch
+  latchesOf = record { pending = λ k. record { current = stateLiterals .pending k; next = wiringOf k .pending } }
 
   abbrev pub gateOf : ℕ → (Wiring → Operands) → ℕ → Gate
   gateOf j operands k =
@@ -54,7 +59,7 @@ module _ (g : NormalForm) where
   circuitOf =
       record {
         inputs = tabulate (g .signals) (λ i. signalLiteral (suc i)) ++ byRow activatorLiteral;
-        latches = byRow latchOf;
+        latches = inOrder (g .rows) latchesOf;
         outputs = byRow (λ k. wiringOf k .failed) ++ (byRow (λ k. wiringOf k .accept) ++ byRow (λ k. wiringOf k .pending));
         gates = gatesFrom (g .rows) 1;
       }

@@ -1,5 +1,5 @@
 -- Cycles of the circuit and calls of the step service. Assumes nothing.
-use Prim.Native.Nat.{ℕ, suc, _+_, _*_}
+use Prim.Native.Nat.{ℕ, suc, _+_}
 use mathlib.Core.Bool.{Bool}
 use mathlib.Core.List.{_++_}
 use lib.ListN.{replicate}
@@ -8,7 +8,7 @@ use Rattle.tables.specs.declared.row.Formula.{Formula}
 use Rattle.normal_form.specs.declared.sign.Sign.the-variants.{Plain}
 use Rattle.normal_form.specs.Numbering.{normalForm}
 use Rattle.circuit.specs.Circuit.{Circuit}
-use Rattle.step.specs.Step.{digitAt, digitOf, rowsIn}
+use Rattle.step.specs.Step.{digitAt, digitOf, outputSize, rowsIn}
 use Rattle.step_calls.specs.Calls.{Call}
 use Rattle.monitor_circuit.specs.Monitors.{circuitOf}
 
@@ -26,6 +26,6 @@ callWith f inputs =
     record {
       signals = tabulate (f .signals) (λ i. digitOf (inputs i));
       activators = tabulate (rowsIn f) (λ i. digitOf (inputs (f .signals + i)));
-      buffer = replicate (3 * rowsIn f) 0;
-      zeros = rowsIn f;
+      buffer = replicate (outputSize (rowsIn f)) 0;
+      rows = rowsIn f;
     }

@@ -18,7 +18,7 @@ use Rattle.meaning.specs.Pattern.{Pattern, Pattern.now, Pattern.next, Pattern.c
 use Rattle.meaning.specs.Pattern.{constantBit, signalSign, unaryLeft, unaryPattern, binaryPattern, left, right, patternOf, connectiveBit, signedBit, operandBit}
 use Rattle.meaning.proofs.Readings.{On, on-and-off}
 use Rattle.monitors.specs.declared.Output.{Output}
-use Rattle.monitors.specs.declared.State.{State}
+use Rattle.monitors.specs.declared.RowState.{RowState}
 use Rattle.monitors.specs.Monitor.{checks, waits, awaits, goes, constantMonitor, signalMonitor, unaryMonitor, binaryMonitor, rowMonitor, monitor}
 
 -- what ends a row's waiting: the right operand of the untils, the left one of the releases
@@ -32,7 +32,7 @@ needBit true a b = a || b
 needBit false a b = b
 
 -- a and b are the activators of the left and the right operand
-module _ (a b : Bool) (s : State) where
+module _ (a b : Bool) (s : RowState) where
   abbrev pub patternMonitor : Pattern → Output
   patternMonitor now = checks (s .active && not b)
   patternMonitor next = waits (s .active) (s .pending && not b)
@@ -61,23 +61,23 @@ double-not x false = refl
 
 -- ---- each kind
 
-constant-by-pattern : (c : ConstantKind) (s : State) → constantMonitor c s ≡ checks (s .active && not (constantBit c))
+constant-by-pattern : (c : ConstantKind) (s : RowState) → constantMonitor c s ≡ checks (s .active && not (constantBit c))
 constant-by-pattern True s = ap checks (and-false (s .active))
 constant-by-pattern False s = ap checks (and-true (s .active))
 
-signal-by-pattern : (c : SignalKind) (on : Bool) (s : State) → signalMonitor c on s ≡ checks (s .active && not (signedBit (signalSign c) on))
+signal-by-pattern : (c : SignalKind) (on : Bool) (s : RowState) → signalMonitor c on s ≡ checks (s .active && not (signedBit (signalSign c) on))
 signal-by-pattern Sig on s = refl
 signal-by-pattern Nsig on s = ap checks (double-not (s .active) on)
 
 unary-by-pattern :
-    (c : UnaryKind) → On (positive c) → (a : Bool) (s : State)
+    (c : UnaryKind) → On (positive c) → (a : Bool) (s : RowState)
     → unaryMonitor c a s ≡ patternMonitor (unaryLeft c) (signedBit (positive c) a) s (unaryPattern c)
 unary-by-pattern Not o a s = on-and-off o refl
 unary-by-pattern Next o a s = refl
 unary-by-pattern Always o a s = ap (λ x. waits x (goes s && not a)) (and-true (goes s))
 unary-by-pattern Ever o a s = ap (awaits (goes s && not a)) (and-false (goes s))
 
-binary-by-pattern : (c : BinaryKind) (a b : Bool) (s : State) → binaryMonitor c a b s ≡ patternMonitor a b s (binaryPattern c)
+binary-by-pattern : (c : BinaryKind) (a b : Bool) (s : RowState) → binaryMonitor c a b s ≡ patternMonitor a b s (binaryPattern c)
 binary-by-pattern And a b s = refl
 binary-by-pattern Or a b s = refl
 binary-by-pattern Weak a b s = ap (waits (goes s && not b)) (two-nots (goes s) a b)
@@ -87,7 +87,7 @@ binary-by-pattern Srelease a b s = refl
 
 -- ---- rows
 
-module _ (act signals : ℕ → Bool) (s : State) where
+module _ (act signals : ℕ → Bool) (s : RowState) where
   pub monitor-by-pattern :
       (r : Row) → Positive r
       → monitor act signals r s ≡ patternMonitor (operandBit signals act (left r)) (operandBit signals act (right r)) s (patternOf r)
@@ -97,7 +97,7 @@ module _ (act signals : ℕ → Bool) (s : State) where
   monitor-by-pattern (Binary c a b) o = binary-by-pattern c (act a) (act b) s
 
 -- what holds of every pattern's monitor holds of every row's (`not`, which no normal form has, never fails)
-module _ (P : (State → Output) → Type 0) (each : (a b : Bool) (x : Pattern) → P (λ s. patternMonitor a b s x)) where
+module _ (P : (RowState → Output) → Type 0) (each : (a b : Bool) (x : Pattern) → P (λ s. patternMonitor a b s x)) where
   positive-pattern : (c : UnaryKind) → On (positive c) → (a : Bool) → P (unaryMonitor c a)
   positive-pattern c o a = subst⁻¹ P (fun-ext (unary-by-pattern c o a)) (each (unaryLeft c) (signedBit (positive c) a) (unaryPattern c))
 

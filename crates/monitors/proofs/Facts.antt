@@ -9,9 +9,11 @@ use mathlib.Core.Bool.{true, false}
 use native.Mathlib.Omega.{arith}
 use Rattle.tables.specs.declared.row.NormalForm.{NormalForm}
 use Rattle.tables.specs.declared.trace.Activation.{Activation}
+use Rattle.tables.specs.declared.trace.Ending.the-variants.{Loop}
 use Rattle.tables.specs.declared.trace.Trace.{Trace}
 use Rattle.meaning.specs.Reading.{Reading}
 use Rattle.meaning.specs.Trace.{InfiniteTrace, signalAt, position, unrolled}
+use Rattle.meaning.specs.Covers.{CoversIn}
 use Rattle.meaning.specs.Satisfaction.{Table, tableOf, RowTrue, SatisfiesNormal}
 use Rattle.meaning.specs.Strong.{RowStronglyTrue}
 use Rattle.meaning.specs.Rows.{Each, Ordered, Positive}
@@ -85,12 +87,12 @@ module _ (g : NormalForm) (operands : (k : ℕ) → k < suc (g .rows) → Each (
         looped-passing-rows R k h c b on = lasso-passing-active (t .cycles) l l<n (signalAt t) table (suc (g .rows)) (g .rows) (omega arith) ordered positive (activatorAt a) lasso-passes R k (omega (arith, h .1)) c
             (ap (λ i. activatorAt a i k) (position-first (t .cycles) l c b) ∙ on)
 
-      -- the sheet has where each row is true
+      -- the sheet has where each row is true, on a take that covers the normal form
       pub looped-true-passing :
-          (R : Reading) → ((k : ℕ) → IsRow g k → (c : ℕ) → c < t .cycles → (activatorAt a c k ≡ true) ↔ RowTrue R (unrolled t l) (tableOf (g .places)) k c)
+          CoversIn g t (Loop l) → (R : Reading) → ((k : ℕ) → IsRow g k → (c : ℕ) → c < t .cycles → (activatorAt a c k ≡ true) ↔ RowTrue R (unrolled t l) (tableOf (g .places)) k c)
           → SatisfiesNormal R (unrolled t l) g → PassesLooped g t l a
       unfolding withTrue
-      looped-true-passing R tells satisfied = record {
+      looped-true-passing covers R tells satisfied = record {
         root-set = sym (with-same (activatorAt a) 0 (g .rows) some) ∙ passes .root-set;
         none-fails = λ i k h. ap (λ o. o .failed) (same k h i) ∙ passes .none-fails k (omega (arith, h .1)) i;
         accepts-return = λ k h i none. passes .accepts-return k (omega (arith, h .1)) i (λ x. none (x .0, (x .1 .0, ap (λ o. o .accept) (same k h (x .0)) ∙ x .1 .1)));
@@ -101,7 +103,7 @@ module _ (g : NormalForm) (operands : (k : ℕ) → k < suc (g .rows) → Each (
           tells-all c b (suc k) h = tells (suc k) (omega arith, omega arith) c b
 
           passes : PassesLasso (t .cycles) l l<n (signalAt t) table (suc (g .rows)) (g .rows) (withTrue (activatorAt a))
-          passes = lasso-truth-passes (t .cycles) l l<n (signalAt t) table (suc (g .rows)) (g .rows) (omega arith) ordered positive R (withTrue (activatorAt a)) (λ k h c b. tells-all c b k h) satisfied
+          passes = lasso-truth-passes (t .cycles) l l<n (signalAt t) table (suc (g .rows)) (g .rows) (omega arith) ordered positive covers R (withTrue (activatorAt a)) (λ k h c b. tells-all c b k h) satisfied
 
           same : (k : ℕ) → IsRow g k → (i : ℕ) → loopedOutput g t l a i k ≡ lassoOutput (t .cycles) l l<n (signalAt t) table (withTrue (activatorAt a)) i k
           same = with-output (unrolled t l) (repeated a t l) (λ i. withTrue (activatorAt a) (position (t .cycles) l i)) (λ i k h. sym (with-same (activatorAt a) (position (t .cycles) l i) k h))

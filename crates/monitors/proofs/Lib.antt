@@ -1,3 +1,4 @@
+pub mod States
 pub mod ByPattern
 pub mod Soundness
 pub mod Made

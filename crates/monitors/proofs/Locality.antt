@@ -10,12 +10,12 @@ use Rattle.meaning.specs.Trace.{InfiniteTrace}
 use Rattle.meaning.specs.Satisfaction.{Table}
 use Rattle.meaning.specs.Rows.{Each, EachSignal}
 use Rattle.meaning.proofs.Rows.{each-map}
-use Rattle.monitors.specs.declared.State.{State}
+use Rattle.monitors.specs.declared.RowState.{RowState}
 use Rattle.monitors.specs.Monitor.{signalMonitor, unaryMonitor, binaryMonitor, monitor}
-use Rattle.monitors.specs.Along.{Activators, pendingBefore, output}
+use Rattle.monitors.specs.Along.{Activators, stateBefore, pendingBefore, output}
 
 monitor-local :
-    (act act′ signals signals′ : ℕ → Bool) (r : Row) (s : State) → Each (λ a. act a ≡ act′ a) r → EachSignal (λ n. signals n ≡ signals′ n) r
+    (act act′ signals signals′ : ℕ → Bool) (r : Row) (s : RowState) → Each (λ a. act a ≡ act′ a) r → EachSignal (λ n. signals n ≡ signals′ n) r
     → monitor act signals r s ≡ monitor act′ signals′ r s
 monitor-local act act′ signals signals′ (Constant c) s e g = refl
 monitor-local act act′ signals signals′ (Signal c n) s e g = ap (λ x. signalMonitor c x s) g
@@ -32,7 +32,7 @@ module _ (t : Table) (P : ℕ → Type 0) (closed : (k : ℕ) → P k → Each P
       ∙ ap₂ (λ z y. monitor (act′ i) (w′ i) (t k) (record { active = z; pending = y })) (same-activators i l k in-set) e
 
   pub pending-local : (i : ℕ) → i ≤ n → pendingBefore t w act i k ≡ pendingBefore t w′ act′ i k
-  unfolding pendingBefore
+  unfolding stateBefore
   pending-local zero l = refl
   pending-local (suc i) l = ap (λ o. o .pending) (step i l (pending-local i (omega arith)))
 

@@ -21,7 +21,7 @@ use Rattle.meaning.proofs.Streams.{expand-cases, approximant-is, approximant-ex
 use Rattle.meaning.proofs.PatternBits.{patternBit, rowBit}
 use Rattle.meaning.proofs.Evaluation.{Evaluation, operands-periodic}
 use Rattle.monitors.specs.declared.Output.{Output}
-use Rattle.monitors.specs.Along.{pendingBefore, output}
+use Rattle.monitors.specs.Along.{stateBefore, pendingBefore, output}
 use Rattle.monitors.proofs.ByPattern.{doneBit, needBit, patternMonitor}
 use Rattle.monitors.proofs.Soundness.{patternOutput, output-by-pattern, handed-on}
 
@@ -227,31 +227,31 @@ module _ (live : ℕ → Bool) (w : InfiniteTrace) (t : Table) (m : ℕ) (bits :
   abbrev pending : ℕ → Bool
   pending i = pendingBefore t w act i k
 
-  operands : Periodic period start (operandBits w bits (left (t k))) × Periodic period start (operandBits w bits (right (t k)))
+  operands : Periodic period (start k) (operandBits w bits (left (t k))) × Periodic period (start k) (operandBits w bits (right (t k)))
   operands = operands-periodic live w t m bits e k k<m
 
-  said : (i : ℕ) → output t w act i k ≡ patternOutput t w act (pendingBefore t w act) i k
-  said = output-by-pattern t w act (pendingBefore t w act) k (positive k k<m)
+  said : (i : ℕ) → output t w act i k ≡ patternOutput t w act (stateBefore t w act) i k
+  said = output-by-pattern t w act (stateBefore t w act) k (positive k k<m)
 
-  makes : Makes period start (e .period>0) depth (e .enough) (operandBits w bits (left (t k))) (operandBits w bits (right (t k))) (operands .0) (operands .1)
-      (bits k) pending (handed-on t m w act .fresh k k<m) (patternOf (t k))
+  makes : Makes period (start k) (e .period>0) depth (e .enough k k<m) (operandBits w bits (left (t k))) (operandBits w bits (right (t k))) (operands .0) (operands .1)
+      (bits k) pending (handed-on t m w act .fresh .same-pending k k<m) (patternOf (t k))
   makes = record {
-    hands = λ i. handed-on t m w act .next k k<m i ∙ ap (λ o. o .pending) (said i);
+    hands = λ i. handed-on t m w act .next i .same-pending k k<m ∙ ap (λ o. o .pending) (said i);
     bit = λ i on. and-right (live i) _ (sym (e .computes k k<m i) ∙ on);
   }
 
   pub bits-never-fail : (i : ℕ) → output t w act i k .failed ≡ false
   bits-never-fail i = ap (λ o. o .failed) (said i)
-      ∙ never-fails period start (e .period>0) depth (e .enough) _ _ (operands .0) (operands .1) (bits k) pending (handed-on t m w act .fresh k k<m) (patternOf (t k)) makes i
+      ∙ never-fails period (start k) (e .period>0) depth (e .enough k k<m) _ _ (operands .0) (operands .1) (bits k) pending (handed-on t m w act .fresh .same-pending k k<m) (patternOf (t k)) makes i
 
   pub bits-accept : (i : ℕ) → (j : ℕ) × (i ≤ j) × On (output t w act j k .accept)
   bits-accept i =
-      let r = accepts period start (e .period>0) depth (e .enough) _ _ (operands .0) (operands .1) (bits k) pending (handed-on t m w act .fresh k k<m) (patternOf (t k)) makes i in
+      let r = accepts period (start k) (e .period>0) depth (e .enough k k<m) _ _ (operands .0) (operands .1) (bits k) pending (handed-on t m w act .fresh .same-pending k k<m) (patternOf (t k)) makes i in
       (r .0, r .1, ap (λ o. o .accept) (said (r .0)) ∙ r .2)
 
   -- no cycle from c on is live
   pub bits-not-pending : (c : ℕ) → ((j : ℕ) → c ≤ j → live j ≡ false) → pendingBefore t w act c k ≡ false
-  bits-not-pending c off = not-pending period start (e .period>0) depth (e .enough) _ _ (operands .0) (operands .1) (bits k) pending (handed-on t m w act .fresh k k<m)
+  bits-not-pending c off = not-pending period (start k) (e .period>0) depth (e .enough k k<m) _ _ (operands .0) (operands .1) (bits k) pending (handed-on t m w act .fresh .same-pending k k<m)
       c (patternOf (t k)) (row-ends (t k) (positive k k<m) (each-map _ _ (λ a l j x. e .computes a (omega arith) j ∙ ap (λ b. b && rowBit w depth bits (t a) j) (off j x)) (t k) (e .ordered k k<m))) makes
     where
       row-ends : (r : Row) → Positive r → Each (λ a. (j : ℕ) → c ≤ j → bits a j ≡ false) r → Ends (operandBits w bits (left r)) (operandBits w bits (right r)) c (patternOf r)

@@ -18,7 +18,7 @@ use Rattle.meaning.proofs.Carry.{carried}
 use Rattle.meaning.proofs.Lasso.{lasso}
 use Rattle.monitors.specs.declared.Output.{Output}
 use Rattle.monitors.specs.Monitor.{firstOf, secondOf, monitor}
-use Rattle.monitors.specs.Along.{Activators, pendingBefore, output}
+use Rattle.monitors.specs.Along.{Activators, stateBefore, pendingBefore, output}
 use Rattle.monitors.proofs.ByPattern.{patternMonitor, each-pattern}
 use Rattle.monitors.proofs.Sheets.{lassoOutput}
 
@@ -79,7 +79,7 @@ module _ (N b : ℕ) (t : Table) (w : InfiniteTrace) (act : Activators) (signals
   says-periodic i h y = λ j. monitor (activators i h j) (signals i h j) (t k) (record { active = activators i h j k; pending = y })
 
   pending-periodic : Periodic N (b + N) (λ i. pendingBefore t w act i k)
-  unfolding pendingBefore says
+  unfolding stateBefore says
   pending-periodic = carried N b (λ i y. says i y .pending) (λ i x y f. pending-grows (act i k) x y f (act i) (w i) (t k))
       (λ i h y. ap (λ o. o .pending) (says-periodic i h y)) (λ i. pendingBefore t w act i k) (λ i. refl)
 

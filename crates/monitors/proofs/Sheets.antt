@@ -14,6 +14,7 @@ use Rattle.meaning.specs.Trace.{InfiniteTrace, position}
 use Rattle.meaning.specs.Satisfaction.{Table, RowTrue}
 use Rattle.meaning.specs.Strong.{RowStronglyTrue}
 use Rattle.meaning.specs.Rows.{Each, EachSignal, Ordered, Positive}
+use Rattle.meaning.specs.Covers.{Covers}
 use Rattle.meaning.specs.Pattern.{Pattern, Pattern.now, Pattern.next, Pattern.connective, Pattern.temporal, left, right, patternOf, operandBits}
 use Rattle.meaning.proofs.Readings.{lt-or-le, On, on-and-off, bools-equal, classical-full}
 use Rattle.meaning.proofs.Rows.{each-map, each-signal}
@@ -25,7 +26,7 @@ use Rattle.meaning.proofs.Lasso.{twoRounds, lasso, ComputesLasso, lasso-evaluat
 use Rattle.meaning.proofs.StrongTruth.{cyclesBelow, Inside, strong-interprets}
 use Rattle.meaning.proofs.Prefix.{prefix, toEnd, prefix-same, prefix-evaluation, prefix-truth, prefix-readings}
 use Rattle.monitors.specs.declared.Output.{Output}
-use Rattle.monitors.specs.Along.{Activators, pendingBefore, output}
+use Rattle.monitors.specs.Along.{Activators, stateBefore, pendingBefore, output}
 use Rattle.monitors.proofs.ByPattern.{patternMonitor}
 use Rattle.monitors.proofs.Soundness.{output-by-pattern, Unfailing, along-active-true, along-active-row-true}
 use Rattle.monitors.proofs.Made.{bits-never-fail, bits-accept, bits-not-pending}
@@ -46,7 +47,7 @@ module _ (n l : ℕ) (l<n : l < n) (recording : ℕ → ℕ → Bool) (t : Table
 
   module _ (m root : ℕ) (root<m : root < m) (ordered : Ordered m t) (positive : (k : ℕ) → k < m → Positive (t k)) where
     module _ (sheet : Activators) (passes : PassesLasso m root sheet) where
-      unfailing : Unfailing t m (lasso n l l<n recording) (λ i. sheet (position n l i)) (pendingBefore t (lasso n l l<n recording) (λ i. sheet (position n l i)))
+      unfailing : Unfailing t m (lasso n l l<n recording) (λ i. sheet (position n l i)) (stateBefore t (lasso n l l<n recording) (λ i. sheet (position n l i)))
       unfailing = record {
         none-fails = passes .none-fails;
         none-starves = λ k h i none. passes .accepts-return k h i (λ x. on-and-off (x .1 .1) (none (x .0) (x .1 .0)));
@@ -61,33 +62,33 @@ module _ (n l : ℕ) (l<n : l < n) (recording : ℕ → ℕ → Bool) (t : Table
       unfolding position
       lasso-passing R = lasso-passing-active R root root<m 0 (passes .root-set)
 
-    -- a sheet that agrees with computed bits
-    module _ (bits : ℕ → ℕ → Bool) (computes : ComputesLasso n l l<n recording t m ordered bits) (sheet : Activators)
+    -- a sheet that agrees with computed bits, on a lasso that covers the rows
+    module _ (covers : Covers n l recording t m) (bits : ℕ → ℕ → Bool) (computes : ComputesLasso n l l<n recording t m ordered bits) (sheet : Activators)
         (agrees : (k : ℕ) → k < m → (c : ℕ) → c < n → sheet c k ≡ bits k c) where
       sheet-computes : ComputesLasso n l l<n recording t m ordered (λ k c. sheet c k)
       sheet-computes k h c b = agrees k h c b ∙ computes k h c b ∙ ap (λ f. f c) (row-bit-local everyCycle (lasso n l l<n recording) (twoRounds n l l<n) t _ _ (t k)
           (each-map _ _ (λ a x. fun-ext (λ i. sym (agrees a (omega arith) (position n l i) (position-below n l l<n i)))) (t k) (ordered k h)))
 
       evaluation : Evaluation everyCycle (lasso n l l<n recording) t m (λ k i. sheet (position n l i) k)
-      evaluation = lasso-evaluation n l l<n recording t m ordered _ (lasso-unrolls n l l<n recording t m ordered (λ k c. sheet c k) sheet-computes)
+      evaluation = lasso-evaluation n l l<n recording t m ordered covers _ (lasso-unrolls n l l<n recording t m ordered covers (λ k c. sheet c k) sheet-computes)
 
       pub lasso-bits-pass : (R : Reading) → RowTrue R (lasso n l l<n recording) t root 0 → PassesLasso m root sheet
       unfolding position
       lasso-bits-pass R x = record {
-        root-set = lasso-truth n l l<n recording t m ordered (λ k c. sheet c k) sheet-computes R root root<m 0 .0 x;
+        root-set = lasso-truth n l l<n recording t m ordered covers (λ k c. sheet c k) sheet-computes R root root<m 0 .0 x;
         none-fails = bits-never-fail everyCycle (lasso n l l<n recording) t m _ evaluation positive;
         accepts-return = λ k h i none. let r = bits-accept everyCycle (lasso n l l<n recording) t m _ evaluation positive k h i in none (r .0, (r .1, r .2));
       }
 
     -- a sheet that has where each row is true
     pub lasso-truth-passes :
-        (R : Reading) (sheet : Activators) → ((k : ℕ) → k < m → (c : ℕ) → c < n → On (sheet c k) ↔ RowTrue R (lasso n l l<n recording) t k c)
+        Covers n l recording t m → (R : Reading) (sheet : Activators) → ((k : ℕ) → k < m → (c : ℕ) → c < n → On (sheet c k) ↔ RowTrue R (lasso n l l<n recording) t k c)
         → RowTrue R (lasso n l l<n recording) t root 0 → PassesLasso m root sheet
-    lasso-truth-passes R sheet tells =
-        let computed = lasso-bits-computed n l l<n recording t m ordered in
-        lasso-bits-pass _ computed sheet (λ k h c b.
+    lasso-truth-passes covers R sheet tells =
+        let computed = lasso-bits-computed n l l<n recording t m ordered covers in
+        lasso-bits-pass covers _ computed sheet (λ k h c b.
         let e = subst (λ i. RowTrue R (lasso n l l<n recording) t k c ↔ On (bitsOf everyCycle (lasso n l l<n recording) (twoRounds n l l<n) t k i)) (position-first n l c b)
-        (lasso-truth n l l<n recording t m ordered _ computed R k h c) in
+        (lasso-truth n l l<n recording t m ordered covers _ computed R k h c) in
         bools-equal _ _ (λ x. e .0 (tells k h c b .0 x)) (λ x. tells k h c b .1 (e .1 x))) R
 
 -- ---- prefixes: behind the end nothing is active
@@ -137,7 +138,7 @@ module _ (n : ℕ) (w : InfiniteTrace) (t : Table) where
 
       -- the pendings behind the end are those of the last cycle
       last-pending : (k : ℕ) → k < m → pendingBefore t (prefix n w) (cut sheet) n k ≡ output t w sheet (n - 1) k .pending
-      unfolding pendingBefore
+      unfolding stateBefore
       last-pending k h =
           let e : suc (n - 1) ≡ n = omega arith in
           subst (λ i. pendingBefore t (prefix n w) (cut sheet) i k ≡ output t w sheet (n - 1) k .pending) e (before (n - 1) (omega arith))
@@ -147,14 +148,14 @@ module _ (n : ℕ) (w : InfiniteTrace) (t : Table) where
 
     module _ (sheet : Activators) (passes : PassesPrefix m root sheet) where
       rest : (k : ℕ) → k < m → (i : ℕ) → n ≤ i → pendingBefore t (prefix n w) (cut sheet) i k ≡ false → Rests (output t (prefix n w) (cut sheet) i k)
-      rest k h i l e = subst⁻¹ Rests (output-by-pattern t (prefix n w) (cut sheet) (pendingBefore t (prefix n w) (cut sheet)) k (positive k h) i)
+      rest k h i l e = subst⁻¹ Rests (output-by-pattern t (prefix n w) (cut sheet) (stateBefore t (prefix n w) (cut sheet)) k (positive k h) i)
           (rests (patternOf (t k)) (operandBits (prefix n w) (λ a j. cut sheet j a) (left (t k)) i) (operandBits (prefix n w) (λ a j. cut sheet j a) (right (t k)) i) _ _ (ap (λ b. b && sheet i k) (le-ltb i n l)) e)
 
       still : (k : ℕ) → k < m → (i : ℕ) → n ≤ i → pendingBefore t (prefix n w) (cut sheet) i k ≡ false
-      unfolding pendingBefore
+      unfolding stateBefore
       still k h = le-ind (λ i. pendingBefore t (prefix n w) (cut sheet) i k ≡ false) (last-pending sheet k h ∙ passes .none-pending k h) (λ i l e. rest k h i l e .0)
 
-      cut-unfailing : Unfailing t m (prefix n w) (cut sheet) (pendingBefore t (prefix n w) (cut sheet))
+      cut-unfailing : Unfailing t m (prefix n w) (cut sheet) (stateBefore t (prefix n w) (cut sheet))
       cut-unfailing = record {
         none-fails = λ k h i. by k h i (lt-or-le i n);
         none-starves = λ k h i none. on-and-off (rest k h (i + n) (omega arith) (still k h (i + n) (omega arith)) .2) (none (i + n) (omega arith));

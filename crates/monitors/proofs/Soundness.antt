@@ -1,5 +1,5 @@
 -- Soundness of the monitors: along an infinite trace on which no monitor ever fails and no accept stays 0 from some cycle on, a row
--- is true wherever it is active, in any full reading (active-true). The pendings may be any that are handed on from cycle to cycle;
+-- is true wherever it is active, in any full reading (active-true). The states may be any that are handed on from cycle to cycle;
 -- those of Along are (handed-on), and there are no others (handed-on-unique). Assumes nothing.
 use Prim.Native.Nat.{ℕ, zero, suc, _≤_, _<_}
 use mathlib.Core.Path.{_≡_, refl, subst, sym, ap, _∙_}
@@ -22,7 +22,9 @@ use Rattle.meaning.proofs.MeaningByPattern.{holds-map, interprets-pattern}
 use Rattle.meaning.proofs.PatternBits.{keep-iff, goal-iff, connective-iff, signal-iff}
 use Rattle.monitors.specs.declared.Output.{Output}
 use Rattle.monitors.specs.Monitor.{monitor}
-use Rattle.monitors.specs.Along.{Activators, pendingBefore}
+use Rattle.monitors.specs.State.{State, freshState, rowState, outputFrom, nextState}
+use Rattle.monitors.specs.Along.{Activators, stateBefore}
+use Rattle.monitors.proofs.States.{SameState}
 use Rattle.monitors.proofs.ByPattern.{doneBit, needBit, patternMonitor, monitor-by-pattern}
 
 -- ---- Bools
@@ -110,35 +112,35 @@ module _ (R : Reading) (full : Full R) (a b z y : ℕ → Bool) where
   holds-where-active (temporal f false) h i on =
       full _ (λ n. h .none-starves i (λ j l. not-off _ (sym (h .hands j) ∙ keeps-forever f (h .hands) (h .none-fails) i on (λ u. R .sure u n) j l .1)))
 
--- ---- a table with any pendings: `pending i k` is what row k had pending before cycle i
+-- ---- a table with any states: `states i` is what was handed on to cycle i
 
-module _ (t : Table) (w : InfiniteTrace) (act pending : Activators) where
+module _ (t : Table) (w : InfiniteTrace) (act : Activators) (states : ℕ → State Bool) where
   -- what row k's monitor says in cycle i
-  abbrev pub outputFrom : ℕ → ℕ → Output
-  outputFrom i k = monitor (act i) (w i) (t k) (record { active = act i k; pending = pending i k })
+  abbrev pub outputIn : ℕ → ℕ → Output
+  outputIn i k = outputFrom t (act i) (w i) (states i) k
 
   -- the same by the row's pattern; the activators are taken by rows first, as bits are
   abbrev pub patternOutput : ℕ → ℕ → Output
   patternOutput i k = patternMonitor (operandBits w (λ a j. act j a) (left (t k)) i) (operandBits w (λ a j. act j a) (right (t k)) i)
-      (record { active = act i k; pending = pending i k }) (patternOf (t k))
+      (rowState (act i) (states i) k) (patternOf (t k))
 
-  pub output-by-pattern : (k : ℕ) → Positive (t k) → (i : ℕ) → outputFrom i k ≡ patternOutput i k
-  output-by-pattern k positive i = monitor-by-pattern (act i) (w i) (record { active = act i k; pending = pending i k }) (t k) positive
+  pub output-by-pattern : (k : ℕ) → Positive (t k) → (i : ℕ) → outputIn i k ≡ patternOutput i k
+  output-by-pattern k positive i = monitor-by-pattern (act i) (w i) (rowState (act i) (states i) k) (t k) positive
 
 -- the rows below m
-module _ (t : Table) (m : ℕ) (w : InfiniteTrace) (act pending : Activators) where
+module _ (t : Table) (m : ℕ) (w : InfiniteTrace) (act : Activators) (states : ℕ → State Bool) where
   abbrev rowActive : ℕ → ℕ → Bool
   rowActive k i = act i k
 
-  -- "Y is this row's pending one cycle earlier, 0 in the first cycle"
+  -- a fresh state at first, and then what each cycle leaves
   pub record HandedOn : Type 0 where
-    pub fresh : (k : ℕ) → k < m → pending 0 k ≡ false
-    pub next : (k : ℕ) → k < m → (i : ℕ) → pending (suc i) k ≡ outputFrom t w act pending i k .pending
+    pub fresh : SameState (λ k. k < m) (states 0) freshState
+    pub next : (i : ℕ) → SameState (λ k. k < m) (states (suc i)) (nextState t (act i) (w i) (states i))
 
   -- no monitor ever fails, and none accepts no more from some cycle on
   pub record Unfailing : Type 0 where
-    pub none-fails : (k : ℕ) → k < m → (i : ℕ) → outputFrom t w act pending i k .failed ≡ false
-    pub none-starves : (k : ℕ) → k < m → (i : ℕ) → ¬ ((j : ℕ) → i ≤ j → outputFrom t w act pending j k .accept ≡ false)
+    pub none-fails : (k : ℕ) → k < m → (i : ℕ) → outputIn t w act states i k .failed ≡ false
+    pub none-starves : (k : ℕ) → k < m → (i : ℕ) → ¬ ((j : ℕ) → i ≤ j → outputIn t w act states j k .accept ≡ false)
 
   -- v gives the rows their meaning at the live cycles, and no row is active at any other cycle
   module _ (ordered : Ordered m t) (positive : (k : ℕ) → k < m → Positive (t k)) (handed : HandedOn) (passes : Unfailing)
@@ -149,7 +151,7 @@ module _ (t : Table) (m : ℕ) (w : InfiniteTrace) (act pending : Activators) wh
       where
         step : (k : ℕ) → ((a : ℕ) → a < k → a < m → (i : ℕ) → On (act i a) → v a i) → k < m → (i : ℕ) → On (act i k) → v k i
         step k ih h i on =
-            let held = holds-where-active R full _ _ (λ j. act j k) (λ j. pending j k) (patternOf (t k)) row-passes i on in
+            let held = holds-where-active R full _ _ (λ j. act j k) (λ j. states j .pending k) (patternOf (t k)) row-passes i on in
             interprets-pattern R w v live t m ordered interprets k h i .1
             (alive k i h on, holds-map R _ _ _ _ (operands .0) (operands .1) (patternOf (t k)) i held)
           where
@@ -157,12 +159,12 @@ module _ (t : Table) (m : ℕ) (w : InfiniteTrace) (act pending : Activators) wh
             operands = both-positive-operands (λ x. (j : ℕ) → On (operandBits w rowActive x j) → OperandTrue w v x j) (λ b j x. x) (λ b s j x. signal-iff b (w j s) .1 x)
                 (t k) (positive k h) (each-map _ _ (λ a l. ih a l (omega arith)) (t k) (ordered k h))
 
-            said : (j : ℕ) → outputFrom t w act pending j k ≡ patternOutput t w act pending j k
-            said = output-by-pattern t w act pending k (positive k h)
+            said : (j : ℕ) → outputIn t w act states j k ≡ patternOutput t w act states j k
+            said = output-by-pattern t w act states k (positive k h)
 
-            row-passes : Passes R full (operandBits w rowActive (left (t k))) (operandBits w rowActive (right (t k))) (λ j. act j k) (λ j. pending j k) (patternOf (t k))
+            row-passes : Passes R full (operandBits w rowActive (left (t k))) (operandBits w rowActive (right (t k))) (λ j. act j k) (λ j. states j .pending k) (patternOf (t k))
             row-passes = record {
-              hands = λ j. handed .next k h j ∙ ap (λ o. o .pending) (said j);
+              hands = λ j. handed .next j .same-pending k h ∙ ap (λ o. o .pending) (said j);
               none-fails = λ j. sym (ap (λ o. o .failed) (said j)) ∙ passes .none-fails k h j;
               none-starves = λ i none. passes .none-starves k h i (λ j l. ap (λ o. o .accept) (said j) ∙ none j l);
             }
@@ -174,25 +176,29 @@ module _ (t : Table) (m : ℕ) (w : InfiniteTrace) (act pending : Activators) wh
   active-row-true ordered positive handed passes R full =
       active-true ordered positive handed passes R full everyCycle (λ k i h on. refl) (RowTrue R w t) (truth-interprets R w t m ordered)
 
--- ---- the pendings of Along
+-- ---- the states of Along
 
 module _ (t : Table) (m : ℕ) (w : InfiniteTrace) (act : Activators) where
-  pub handed-on : HandedOn t m w act (pendingBefore t w act)
-  unfolding pendingBefore
-  handed-on = record { fresh = λ k h. refl; next = λ k h i. refl }
+  pub handed-on : HandedOn t m w act (stateBefore t w act)
+  unfolding stateBefore
+  handed-on = record { fresh = record { same-pending = λ k h. refl }; next = λ i. record { same-pending = λ k h. refl } }
 
-  -- all pendings that are handed on are those
-  pub handed-on-unique : (pending : Activators) → HandedOn t m w act pending → (k : ℕ) → k < m → (i : ℕ) → pending i k ≡ pendingBefore t w act i k
-  unfolding pendingBefore
-  handed-on-unique pending handed k h zero = handed .fresh k h
-  handed-on-unique pending handed k h (suc i) =
-      handed .next k h i ∙ ap (λ y. monitor (act i) (w i) (t k) (record { active = act i k; pending = y }) .pending) (handed-on-unique pending handed k h i)
+  -- all states that are handed on are those
+  pub handed-on-unique : (states : ℕ → State Bool) → HandedOn t m w act states → (i : ℕ) → SameState (λ k. k < m) (states i) (stateBefore t w act i)
+  unfolding stateBefore
+  handed-on-unique states handed zero = handed .fresh
+  handed-on-unique states handed (suc i) =
+      let before = handed-on-unique states handed i in
+      record {
+        same-pending = λ k h. handed .next i .same-pending k h
+            ∙ ap (λ y. monitor (act i) (w i) (t k) (record { active = act i k; pending = y }) .pending) (before .same-pending k h);
+      }
 
-  module _ (ordered : Ordered m t) (positive : (k : ℕ) → k < m → Positive (t k)) (passes : Unfailing t m w act (pendingBefore t w act)) (R : Reading) (full : Full R) where
+  module _ (ordered : Ordered m t) (positive : (k : ℕ) → k < m → Positive (t k)) (passes : Unfailing t m w act (stateBefore t w act)) (R : Reading) (full : Full R) where
     pub along-active-true :
         (live : ℕ → Bool) → ((k i : ℕ) → k < m → On (act i k) → On (live i)) → (v : ℕ → ℕ → Type 0) → Interprets R live w t m v → (k : ℕ) → k < m
         → (i : ℕ) → On (act i k) → v k i
-    along-active-true = active-true t m w act (pendingBefore t w act) ordered positive handed-on passes R full
+    along-active-true = active-true t m w act (stateBefore t w act) ordered positive handed-on passes R full
 
     pub along-active-row-true : (k : ℕ) → k < m → (i : ℕ) → On (act i k) → RowTrue R w t k i
-    along-active-row-true = active-row-true t m w act (pendingBefore t w act) ordered positive handed-on passes R full
+    along-active-row-true = active-row-true t m w act (stateBefore t w act) ordered positive handed-on passes R full

@@ -1,3 +1,4 @@
 pub mod Monitor
+pub mod State
 pub mod Along
 pub mod Sheet

@@ -12,7 +12,7 @@ use Rattle.tables.specs.declared.row.BinaryKind.the-variants.{And, Or, Weak, Un
 use Rattle.tables.specs.declared.row.Row.{Row}
 use Rattle.tables.specs.declared.row.Row.the-variants.{Constant, Signal, Unary, Binary}
 use Rattle.monitors.specs.declared.Output.{Output}
-use Rattle.monitors.specs.declared.State.{State}
+use Rattle.monitors.specs.declared.RowState.{RowState}
 
 -- "What is not named is: pending 0, failed 0, accept 1": a monitor that names failed alone, one that names pending and failed, and one
 -- whose accept is besides "not pending"
@@ -26,21 +26,21 @@ abbrev pub awaits : Bool → Bool → Output
 awaits pending failed = record { failed = failed; accept = not pending; pending = pending }
 
 -- "g is z or Y": z is the row's activator, Y its pending one cycle earlier
-abbrev pub goes : State → Bool
+abbrev pub goes : RowState → Bool
 goes s = s .active || s .pending
 
 -- "true: nothing. false: failed z."
-abbrev pub constantMonitor : ConstantKind → State → Output
+abbrev pub constantMonitor : ConstantKind → RowState → Output
 constantMonitor True s = checks false
 constantMonitor False s = checks (s .active)
 
 -- "sig: failed z and not signal. nsig: failed z and signal."
-abbrev pub signalMonitor : SignalKind → Bool → State → Output
+abbrev pub signalMonitor : SignalKind → Bool → RowState → Output
 signalMonitor Sig on s = checks (s .active && not on)
 signalMonitor Nsig on s = checks (s .active && on)
 
 -- "A, B are the activators of its operands." No normal form has a `not` row.
-abbrev pub unaryMonitor : UnaryKind → Bool → State → Output
+abbrev pub unaryMonitor : UnaryKind → Bool → RowState → Output
 unaryMonitor Not A s = checks false
 -- "next: pending z, failed Y and not A."
 unaryMonitor Next A s = waits (s .active) (s .pending && not A)
@@ -49,7 +49,7 @@ unaryMonitor Always A s = waits (goes s) (goes s && not A)
 -- "ever: pending g and not A, accept not pending."
 unaryMonitor Ever A s = awaits (goes s && not A) false
 
-abbrev pub binaryMonitor : BinaryKind → Bool → Bool → State → Output
+abbrev pub binaryMonitor : BinaryKind → Bool → Bool → RowState → Output
 -- "and: failed z and not (A and B). or: failed z and not (A or B)."
 binaryMonitor And A B s = checks (s .active && not (A && B))
 binaryMonitor Or A B s = checks (s .active && not (A || B))
@@ -61,7 +61,7 @@ binaryMonitor Release A B s = waits (goes s && not A) (goes s && not B)
 binaryMonitor Srelease A B s = awaits (goes s && not A) (goes s && not B)
 
 -- the monitor of a row, from what stands at its numbers: the signal, or the activators of its operands
-abbrev pub rowMonitor : Row → Bool → Bool → State → Output
+abbrev pub rowMonitor : Row → Bool → Bool → RowState → Output
 rowMonitor (Constant c) first second s = constantMonitor c s
 rowMonitor (Signal c n) first second s = signalMonitor c first s
 rowMonitor (Unary c a) first second s = unaryMonitor c first s
@@ -81,5 +81,5 @@ secondOf act (Unary c a) = false
 secondOf act (Binary c a b) = act b
 
 -- the monitor of a row, from all rows' activators and the signals in the cycle
-abbrev pub monitor : (ℕ → Bool) → (ℕ → Bool) → Row → State → Output
+abbrev pub monitor : (ℕ → Bool) → (ℕ → Bool) → Row → RowState → Output
 monitor act signals r s = rowMonitor r (firstOf act signals r) (secondOf act r) s

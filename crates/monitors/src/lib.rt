@@ -15,7 +15,7 @@ pub struct Output {
 }
 
 // The row itself in this cycle: whether it is active, and whether it was pending one cycle earlier.
-pub struct State {
+pub struct RowState {
     pub active: bool,
     pub pending: bool,
 }
@@ -51,7 +51,7 @@ fn awaits(pending: bool, failed: bool) -> Output
     }
 }
 
-pub fn constant(kind: ConstantKind, state: State) -> Output
+pub fn constant(kind: ConstantKind, state: RowState) -> Output
     ensures answer { λ r. ⌜ r ≡ constantMonitor kind state ⌝ }
 {
     match kind {
@@ -60,7 +60,7 @@ pub fn constant(kind: ConstantKind, state: State) -> Output
     }
 }
 
-pub fn signal(kind: SignalKind, on: bool, state: State) -> Output
+pub fn signal(kind: SignalKind, on: bool, state: RowState) -> Output
     ensures answer { λ r. ⌜ r ≡ signalMonitor kind on state ⌝ }
 {
     match kind {
@@ -69,7 +69,7 @@ pub fn signal(kind: SignalKind, on: bool, state: State) -> Output
     }
 }
 
-pub fn unary(kind: UnaryKind, a: bool, state: State) -> Output
+pub fn unary(kind: UnaryKind, a: bool, state: RowState) -> Output
     ensures answer { λ r. ⌜ r ≡ unaryMonitor kind a state ⌝ }
 {
     let goes = state.active | state.pending;
@@ -81,7 +81,7 @@ pub fn unary(kind: UnaryKind, a: bool, state: State) -> Output
     }
 }
 
-pub fn binary(kind: BinaryKind, a: bool, b: bool, state: State) -> Output
+pub fn binary(kind: BinaryKind, a: bool, b: bool, state: RowState) -> Output
     ensures answer { λ r. ⌜ r ≡ binaryMonitor kind a b state ⌝ }
 {
     let goes = state.active | state.pending;
@@ -97,7 +97,7 @@ pub fn binary(kind: BinaryKind, a: bool, b: bool, state: State) -> Output
 
 // The monitor of a row. `first` and `second` are what stands at the row's numbers in this cycle: the signal, or the activators of
 // its operands; what it has no number for does not count.
-pub fn row(row: Row, first: bool, second: bool, state: State) -> Output
+pub fn row(row: Row, first: bool, second: bool, state: RowState) -> Output
     ensures answer { λ r. ⌜ r ≡ rowMonitor row first second state ⌝ }
 {
     match row {

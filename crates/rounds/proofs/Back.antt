@@ -10,7 +10,7 @@ use borrow.Author.Tests.{eq-eqb, ne-eqb}
 use Rattle.tables.specs.Choice.{pick}
 use Rattle.tables.specs.declared.row.NormalForm.{NormalForm}
 use Rattle.tables.proofs.Bits.{word-ext}
-use Rattle.cycle_rows.specs.Cycle.{CycleFrom}
+use Rattle.cycle_rows.specs.Cycle.{CycleFrom, Given}
 use Rattle.rounds.specs.Rounds.{Columns}
 use Rattle.rounds.specs.Recorded.{RecordedFrom, RoundBack}
 
@@ -20,8 +20,8 @@ recorded-alike :
 recorded-alike rows n from words x y e recorded k w h l =
     recorded k w h l ∙ word-ext (64 - (from - 64 * w)) (64 * w + (from - 64 * w)) _ _ (λ c a b. ap (λ (f : ℕ → Bool). ltb c n && f (suc k)) (e c (omega arith)))
 
-module _ (g : NormalForm) (rows : ℕ) (e : g .rows ≡ rows) (signals : ℕ → ℕ → Bool) (n to : ℕ) (later : Columns) where
-  pub back-none : (left : ℕ → Bool) (words : List ℕ) → later to ≡ left → RecordedFrom rows n to words later → RoundBack g signals n to to later left words
+module _ (g : NormalForm) (rows : ℕ) (e : g .rows ≡ rows) (given : ℕ → Given) (n to : ℕ) (later : Columns) where
+  pub back-none : (left : ℕ → Bool) (words : List ℕ) → later to ≡ left → RecordedFrom rows n to words later → RoundBack g given n to to later left words
   back-none left words begins recorded = record {
     columns = later;
     kept = λ c h. refl;
@@ -30,7 +30,7 @@ module _ (g : NormalForm) (rows : ℕ) (e : g .rows ≡ rows) (signals : ℕ →
     recorded = subst⁻¹ (λ m. RecordedFrom m n to words later) e recorded;
   }
 
-  module _ (c : ℕ) (c<to : c < to) (left left′ : ℕ → Bool) (words words′ : List ℕ) (back : RoundBack g signals n (suc c) to later left words) where
+  module _ (c : ℕ) (c<to : c < to) (left left′ : ℕ → Bool) (words words′ : List ℕ) (back : RoundBack g given n (suc c) to later left words) where
     -- one column more
     columns′ : Columns
     columns′ i = pick (eqb i c) left′ (back .columns i)
@@ -44,9 +44,9 @@ module _ (g : NormalForm) (rows : ℕ) (e : g .rows ≡ rows) (signals : ℕ →
     other i ne = ap (λ b. pick b left′ (back .columns i)) (ne-eqb i c ne)
 
     pub back-more :
-        CycleFrom g (signals c) left left′
+        CycleFrom g (given c) left left′
         → ((x : Columns) → RecordedFrom rows n (suc c) words x → ((k : ℕ) → k < rows → x c (suc k) ≡ left′ (suc k)) → RecordedFrom rows n c words′ x)
-        → RoundBack g signals n c to later left′ words′
+        → RoundBack g given n c to later left′ words′
     back-more filled records = record {
       columns = columns′;
       kept = λ i h. other i (λ z. omega arith) ∙ back .kept i h;
@@ -58,12 +58,12 @@ module _ (g : NormalForm) (rows : ℕ) (e : g .rows ≡ rows) (signals : ℕ →
           (records columns′ (recorded-alike rows n (suc c) words (back .columns) columns′ (λ i h. sym (other i (λ z. omega arith))) before) (λ k h. ap (λ f. f (suc k)) here));
     }
       where
-        by : (i : ℕ) → c ≤ i → i < to → Dec (i ≡ c) → CycleFrom g (signals i) (columns′ (suc i)) (columns′ i)
+        by : (i : ℕ) → c ≤ i → i < to → Dec (i ≡ c) → CycleFrom g (given i) (columns′ (suc i)) (columns′ i)
         by i a b (yes q) =
             let ahead : columns′ (suc i) ≡ left = other (suc i) (λ z. omega arith) ∙ ap (λ z. back .columns (suc z)) q ∙ back .ends in
             let now : columns′ i ≡ left′ = ap columns′ q ∙ here in
-            subst⁻¹ (λ (x : ℕ → Bool). CycleFrom g (signals i) x (columns′ i)) ahead
-            (subst⁻¹ (λ (x : ℕ → Bool). CycleFrom g (signals i) left x) now (subst⁻¹ (λ z. CycleFrom g (signals z) left left′) q filled))
+            subst⁻¹ (λ (x : ℕ → Bool). CycleFrom g (given i) x (columns′ i)) ahead
+            (subst⁻¹ (λ (x : ℕ → Bool). CycleFrom g (given i) left x) now (subst⁻¹ (λ z. CycleFrom g (given z) left left′) q filled))
         by i a b (no q) =
-            subst⁻¹ (λ (x : ℕ → Bool). CycleFrom g (signals i) x (columns′ i)) (other (suc i) (λ z. omega arith))
-            (subst⁻¹ (λ (x : ℕ → Bool). CycleFrom g (signals i) (back .columns (suc i)) x) (other i q) (back .made i (omega arith) b))
+            subst⁻¹ (λ (x : ℕ → Bool). CycleFrom g (given i) x (columns′ i)) (other (suc i) (λ z. omega arith))
+            (subst⁻¹ (λ (x : ℕ → Bool). CycleFrom g (given i) (back .columns (suc i)) x) (other i q) (back .made i (omega arith) b))

@@ -16,12 +16,13 @@ use Rattle.meaning.specs.Trace.{signalAt}
 use Rattle.meaning.specs.Satisfaction.{Table, tableOf}
 use Rattle.meaning.specs.Rows.{Each}
 use Rattle.meaning.specs.Pattern.{Pattern, Pattern.now, Pattern.next, Pattern.connective, Pattern.temporal, patternOf}
+use Rattle.meaning.proofs.Nesting.{nesting-none}
 use Rattle.normal_form.specs.Form.{InNormalForm}
 use Rattle.normal_form.proofs.FormTables.{form-operands}
 use Rattle.lanes.specs.Truth.{laneIn, Shows}
 use Rattle.cycle_rows.specs.Cycle.{CycleFrom}
 use Rattle.between_rounds.specs.Between.{everyOperand, handed, Handed, Surveyed}
-use Rattle.rounds.specs.Rounds.{Columns, startFor, startOf, Rises, Round, Begins, ByCycle}
+use Rattle.rounds.specs.Rounds.{Columns, startFor, startOf, Rises, givenAt, roundEnd, Round, Begins, ByCycle}
 use Rattle.rounds.specs.Recorded.{RecordedFrom}
 use Rattle.rounds.proofs.LassoBits.{lassoBit}
 use Rattle.rounds.proofs.OneRound.{Starts, sure-right, starts-next, starts-first}
@@ -37,6 +38,12 @@ put-same columns r x = ap (λ b. pick b x (columns r)) (eq-eqb r r refl)
 
 pub put-other : (columns : ℕ → Columns) (r : ℕ) (x : Columns) (q : ℕ) → (q ≡ r → ⊥) → put columns r x q ≡ columns q
 put-other columns r x q ne = ap (λ b. pick b x (columns q)) (ne-eqb q r ne)
+
+-- ---- where a round ends, and where it begins
+
+-- no row looks back yet
+ends-at-loop : (g : NormalForm) (l : ℕ) → roundEnd g l ≡ l
+ends-at-loop g l = ap (λ n. pick (eqb n 0) l 0) (nesting-none g)
 
 -- a row goes on or starts anew
 handed-either : (p : Pattern) (operands x b : Bool) → b ≡ handed p operands x → (b ≡ x) ⊎ (b ≡ startFor p)
@@ -77,7 +84,7 @@ module _ (g : NormalForm) (t : Trace) (l : ℕ) (ok : InNormalForm g) (l<n : l <
   pub record History (rounds : ℕ) (left sure : ℕ → Bool) (words : List ℕ) : Type 0 where
     pub columns : ℕ → Columns
     pub entered : ℕ → Bool
-    pub enters : CycleFrom g (signalAt t l) (λ k. startOf (T k)) entered
+    pub enters : CycleFrom g (givenAt t l) (λ k. startOf (T k)) entered
     pub made : (r : ℕ) → r < rounds → Round g t l l (columns r)
     pub first : 0 < rounds → Begins g t l entered (columns 0)
     pub goes-on : (r : ℕ) → suc r < rounds → Begins g t l (columns r l) (columns (suc r))
@@ -90,7 +97,7 @@ module _ (g : NormalForm) (t : Trace) (l : ℕ) (ok : InNormalForm g) (l<n : l <
   Unsure rounds sure = (rounds ≡ 0) ⊎ ((k : ℕ) × (k < g .rows) × (sure (suc k) ≡ false))
 
   pub none-yet :
-      (entered sure : ℕ → Bool) (words : List ℕ) → CycleFrom g (signalAt t l) (λ k. startOf (T k)) entered → ((k : ℕ) → sure k ≡ false)
+      (entered sure : ℕ → Bool) (words : List ℕ) → CycleFrom g (givenAt t l) (λ k. startOf (T k)) entered → ((k : ℕ) → sure k ≡ false)
       → History 0 entered sure words
   none-yet entered sure words enters none = record {
     columns = λ r c k. false;
@@ -107,7 +114,7 @@ module _ (g : NormalForm) (t : Trace) (l : ℕ) (ok : InNormalForm g) (l<n : l <
   -- ---- one round more
 
   module _ (left sure : ℕ → Bool) (words : List ℕ) (x : Columns) (left′ sure′ : ℕ → Bool) (words′ : List ℕ)
-      (given : Handed T (g .rows) sure left (x (t .cycles))) (round : Round g t l l x) (leaves : x l ≡ left′)
+      (handing : Handed T (g .rows) sure left (x (t .cycles))) (round : Round g t l l x) (leaves : x l ≡ left′)
       (surveyed : Surveyed T (g .rows) (x (t .cycles)) (x l) sure′) (recorded : RecordedFrom (g .rows) (t .cycles) l words′ x) where
     made-more : (r : ℕ) (columns : ℕ → Columns) → ((q : ℕ) → q < r → Round g t l l (columns q)) → (q : ℕ) → q < suc r → Round g t l l (put columns r x q)
     made-more r columns made q h = by (ℕ-discrete q r)
@@ -133,13 +140,13 @@ module _ (g : NormalForm) (t : Trace) (l : ℕ) (ok : InNormalForm g) (l<n : l <
     pub one-more : (r : ℕ) → History r left sure words → Unsure r sure → History (suc r) left′ sure′ words′
     one-more zero h u =
         let none : (k : ℕ) → sure k ≡ false = h .last .1 in
-        let starts = starts-first l T (g .rows) bits left (x (t .cycles)) (rw (fun-ext none) at given) in
+        let starts = starts-first l T (g .rows) bits left (x (t .cycles)) (rw (fun-ext none) at handing) in
         record {
           columns = put (h .columns) 0 x;
           entered = h .entered;
           enters = h .enters;
           made = made-more 0 (h .columns) (h .made);
-          first = λ b. handed-begins g t l sure (h .entered) (x (t .cycles)) (put (h .columns) 0 x 0) (subst⁻¹ (λ (y : ℕ → Bool). Handed T (g .rows) sure y (x (t .cycles))) (h .last .0) given) refl;
+          first = λ b. handed-begins g t l sure (h .entered) (x (t .cycles)) (put (h .columns) 0 x 0) (subst⁻¹ (λ (y : ℕ → Bool). Handed T (g .rows) sure y (x (t .cycles))) (h .last .0) handing) refl;
           goes-on = λ q b. absurd (omega arith);
           last = newest 0 (h .columns) starts;
           deep = λ depth rises k b lt. first-deep T (g .rows) operands depth rises (x (t .cycles)) (x l) sure′ surveyed k b lt;
@@ -148,8 +155,8 @@ module _ (g : NormalForm) (t : Trace) (l : ℕ) (ok : InNormalForm g) (l<n : l <
     one-more (suc r) h u =
         let y : Columns = h .columns r in
         let before : LastRound y left sure words = h .last in
-        let handed-on : Handed T (g .rows) sure (y l) (x (t .cycles)) = subst⁻¹ (λ (z : ℕ → Bool). Handed T (g .rows) sure z (x (t .cycles))) (before .leaves) given in
-        let starts = starts-next (t .cycles) l l<n (signalAt t) T (g .rows) operands bits true-bit l (omega arith) y (h .made r (omega arith)) (before .starts) sure (before .surveyed) (x (t .cycles)) handed-on in
+        let handed-on : Handed T (g .rows) sure (y l) (x (t .cycles)) = subst⁻¹ (λ (z : ℕ → Bool). Handed T (g .rows) sure z (x (t .cycles))) (before .leaves) handing in
+        let starts = starts-next (t .cycles) l l<n (givenAt t) T (g .rows) operands bits true-bit l (omega arith) y (h .made r (omega arith)) (before .starts) sure (before .surveyed) (x (t .cycles)) handed-on in
         record {
           columns = put (h .columns) (suc r) x;
           entered = h .entered;
@@ -158,7 +165,7 @@ module _ (g : NormalForm) (t : Trace) (l : ℕ) (ok : InNormalForm g) (l<n : l <
           first = λ b. begins-same g t l (h .entered) (put (h .columns) (suc r) x 0) (h .columns 0) (ap (λ (z : Columns). z (t .cycles)) (put-other (h .columns) (suc r) x 0 (λ e. omega arith))) (h .first (omega arith));
           goes-on = λ q b. on q b (ℕ-discrete q r);
           last = newest (suc r) (h .columns) starts;
-          deep = λ depth rises k b lt. deeper (t .cycles) l l<n (signalAt t) T (g .rows) operands bits true-bit y (h .made r (omega arith)) (before .starts) sure (before .surveyed) x round handed-on sure′ surveyed depth rises (suc r) (h .deep depth rises) k b lt;
+          deep = λ depth rises k b lt. deeper (t .cycles) l l<n (givenAt t) T (g .rows) operands bits true-bit y (h .made r (omega arith)) (before .starts) sure (before .surveyed) x round handed-on sure′ surveyed depth rises (suc r) (h .deep depth rises) k b lt;
           few = few-more (suc r) u (h .deep);
         }
       where
@@ -168,7 +175,7 @@ module _ (g : NormalForm) (t : Trace) (l : ℕ) (ok : InNormalForm g) (l<n : l <
             let to : put (h .columns) (suc r) x (suc q) ≡ x = ap (λ z. put (h .columns) (suc r) x (suc z)) e ∙ put-same (h .columns) (suc r) x in
             subst⁻¹ (λ (z : Columns). Begins g t l (z l) (put (h .columns) (suc r) x (suc q))) from
             (subst⁻¹ (λ (z : Columns). Begins g t l (h .columns r l) z) to
-            (handed-begins g t l sure (h .columns r l) (x (t .cycles)) x (subst⁻¹ (λ (z : ℕ → Bool). Handed T (g .rows) sure z (x (t .cycles))) (h .last .leaves) given) refl))
+            (handed-begins g t l sure (h .columns r l) (x (t .cycles)) x (subst⁻¹ (λ (z : ℕ → Bool). Handed T (g .rows) sure z (x (t .cycles))) (h .last .leaves) handing) refl))
         on q b (no e) =
             let from : put (h .columns) (suc r) x q ≡ h .columns q = put-other (h .columns) (suc r) x q (λ z. omega arith) in
             let to : put (h .columns) (suc r) x (suc q) ≡ h .columns (suc q) = put-other (h .columns) (suc r) x (suc q) (λ z. omega arith) in
@@ -178,21 +185,21 @@ module _ (g : NormalForm) (t : Trace) (l : ℕ) (ok : InNormalForm g) (l<n : l <
   -- ---- the last round goes on through the stem
 
   module _ (r : ℕ) (left sure : ℕ → Bool) (words : List ℕ) (h : History (suc r) left sure words) (x : Columns)
-      (kept : (c : ℕ) → l ≤ c → x c ≡ h .columns r c) (stem : (c : ℕ) → c < l → CycleFrom g (signalAt t c) (x (suc c)) (x c)) where
+      (kept : (c : ℕ) → l ≤ c → x c ≡ h .columns r c) (stem : (c : ℕ) → c < l → CycleFrom g (givenAt t c) (x (suc c)) (x c)) where
     pub whole-round : Round g t l 0 x
     whole-round c a b = by (decLt c l)
       where
-        by : Dec (c < l) → CycleFrom g (signalAt t c) (x (suc c)) (x c)
+        by : Dec (c < l) → CycleFrom g (givenAt t c) (x (suc c)) (x c)
         by (yes s) = stem c s
-        by (no s) = subst⁻¹ (λ (y : ℕ → Bool). CycleFrom g (signalAt t c) y (x c)) (kept (suc c) (omega arith))
-            (subst⁻¹ (λ (y : ℕ → Bool). CycleFrom g (signalAt t c) (h .columns r (suc c)) y) (kept c (omega arith)) (h .made r (omega arith) c (omega arith) b))
+        by (no s) = subst⁻¹ (λ (y : ℕ → Bool). CycleFrom g (givenAt t c) y (x c)) (kept (suc c) (omega arith))
+            (subst⁻¹ (λ (y : ℕ → Bool). CycleFrom g (givenAt t c) (h .columns r (suc c)) y) (kept c (omega arith)) (h .made r (omega arith) c (omega arith) b))
 
-    -- EVERY CYCLE OF EVERY ROUND IS FILLED FROM ITS SIGNALS AND THE ROWS ONE CYCLE ON
+    -- EVERY CYCLE OF EVERY ROUND IS FILLED FROM WHAT IT IS GIVEN AND THE ROWS ONE CYCLE ON
     pub by-cycle : (lanes : List Lane) → ((k : ℕ) → k < g .rows → Shows (t .cycles) (laneIn lanes k) (λ c. x c (suc k))) → ByCycle g t l (suc r) lanes
     by-cycle lanes shown = record {
       columns = put (h .columns) r x;
       some = omega arith;
-      made = λ q b. made-with q b (ℕ-discrete q r);
+      made = λ q b. subst⁻¹ (λ m. Round g t l m (put (h .columns) r x q)) (ends-at-loop g l) (made-with q b (ℕ-discrete q r));
       whole = λ q e. subst⁻¹ (λ (y : Columns). Round g t l 0 y) (newest-is q e) whole-round;
       entered = h .entered;
       enters = h .enters;
@@ -223,4 +230,4 @@ module _ (g : NormalForm) (t : Trace) (l : ℕ) (ok : InNormalForm g) (l<n : l <
         let starts = subst⁻¹ (λ (y : ℕ → Bool). Starts l T (g .rows) bits y) e (before .starts) in
         let surveyed : Surveyed T (g .rows) (x (t .cycles)) (x l) sure =
         subst⁻¹ (λ (y : ℕ → Bool). Surveyed T (g .rows) y (x l) sure) e (subst⁻¹ (λ (y : ℕ → Bool). Surveyed T (g .rows) (h .columns r (t .cycles)) y sure) (kept l (omega arith)) (before .surveyed)) in
-        sure-right (t .cycles) l l<n (signalAt t) T (g .rows) operands bits true-bit 0 (omega arith) x whole-round starts sure surveyed k b (all k b) c (omega arith) lt
+        sure-right (t .cycles) l l<n (givenAt t) T (g .rows) operands bits true-bit 0 (omega arith) x whole-round starts sure surveyed k b (all k b) c (omega arith) lt

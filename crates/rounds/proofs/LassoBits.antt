@@ -1,4 +1,4 @@
--- On a lasso the true bits of every row are found from those of its operands, by a pass over its loop and one over its cycles, and they
+-- On a lasso that covers a normal form the true bits of every row are found from those of its operands, by a pass over its loop and one over its cycles, and they
 -- are on where the row is true (true-bits). Assumes nothing.
 use Prim.Native.Nat.{ℕ, suc, _+_, _-_, _≤_, _<_}
 use mathlib.Core.Path.{_≡_, refl, subst, ap, ap₂, _∙_}
@@ -15,6 +15,7 @@ use Rattle.meaning.specs.Reading.{classical}
 use Rattle.meaning.specs.Trace.{InfiniteTrace, position, signalAt}
 use Rattle.meaning.specs.Satisfaction.{Table, tableOf, RowTrue}
 use Rattle.meaning.specs.Rows.{Ordered}
+use Rattle.meaning.specs.Covers.{CoversIn}
 use Rattle.meaning.specs.Pattern.{Pattern, Pattern.now, Pattern.next, Pattern.connective, Pattern.temporal}
 use Rattle.meaning.specs.Pattern.{left, right, patternOf, connectiveBit, keepBits, goalBits, operandBits}
 use Rattle.meaning.specs.Approximant.{approximant}
@@ -89,19 +90,19 @@ module _ (n l : ℕ) (l<n : l < n) where
 -- ---- the true bits of a normal form's rows
 
 pub true-bits :
-    (g : NormalForm) (t : Trace) (l : ℕ) → InNormalForm g → l < t .cycles
+    (g : NormalForm) (t : Trace) (l : ℕ) → InNormalForm g → l < t .cycles → CoversIn g t (Loop l)
     → (bits : ℕ → ℕ → Bool)
     × ((k : ℕ) → k < suc (g .rows) → (c : ℕ) → c < t .cycles → bits k c ≡ lassoBit (t .cycles) l (signalAt t) bits (tableOf (g .places) k) c)
     × ((k : ℕ) → k < suc (g .rows) → (c : ℕ) → c < t .cycles → TrueIn g t (Loop l) k c ↔ (bits k c ≡ true))
-true-bits g t l ok l<n =
+true-bits g t l ok l<n covers =
     let n : ℕ = t .cycles in
     let w : InfiniteTrace = signalAt t in
     let p : Table = tableOf (g .places) in
     let m : ℕ = suc (g .rows) in
     let ordered : Ordered m p = form-ordered g ok in
     let bits : ℕ → ℕ → Bool = bitsOf everyCycle (lasso n l l<n w) (twoRounds n l l<n) p in
-    let computed = lasso-bits-computed n l l<n w p m ordered in (
+    let computed = lasso-bits-computed n l l<n w p m ordered covers in (
       bits,
       λ k h c b. computed k h c b ∙ row-lasso n l l<n w bits (p k) c b,
-      λ k h c b. subst (λ i. RowTrue classical (lasso n l l<n w) p k c ↔ On (bits k i)) (position-first n l c b) (lasso-truth n l l<n w p m ordered bits computed classical k h c),
+      λ k h c b. subst (λ i. RowTrue classical (lasso n l l<n w) p k c ↔ On (bits k i)) (position-first n l c b) (lasso-truth n l l<n w p m ordered covers bits computed classical k h c),
     )

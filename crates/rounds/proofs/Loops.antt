@@ -13,6 +13,7 @@ use Rattle.tables.specs.declared.trace.Trace.{Trace}
 use Rattle.meaning.specs.Trace.{signalAt}
 use Rattle.meaning.specs.Satisfaction.{tableOf}
 use Rattle.meaning.specs.Rows.{Each}
+use Rattle.meaning.specs.Covers.{CoversIn}
 use Rattle.meaning.specs.Pattern.{Pattern, Pattern.now, Pattern.next, Pattern.connective, Pattern.temporal, patternOf}
 use Rattle.meaning.proofs.Rows.{each-map}
 use Rattle.normal_form.specs.Form.{InNormalForm}
@@ -23,8 +24,8 @@ use Rattle.cycle_rows.specs.Cells.{rowCell}
 use Rattle.cycle_rows.specs.Cycle.{CycleFrom}
 use Rattle.cycle_rows.proofs.Only.{cycle-alike}
 use Rattle.between_rounds.specs.Between.{sureIn, Handed, Surveyed}
-use Rattle.rounds.specs.Rounds.{Columns, startOf, RisesAt, Rises, ByCycle}
-use Rattle.rounds.specs.Recorded.{RecordedFrom, RoundBack, SpreadTo, signalsAt}
+use Rattle.rounds.specs.Rounds.{Columns, startOf, RisesAt, Rises, givenAt, ByCycle}
+use Rattle.rounds.specs.Recorded.{RecordedFrom, RoundBack, SpreadTo, givenFrom}
 use Rattle.rounds.proofs.LassoBits.{lassoBit, true-bits}
 use Rattle.rounds.proofs.History.{History, Unsure, none-yet, one-more, by-cycle, all-right}
 use Rattle.rounds.proofs.Spreading.{spread-alike}
@@ -58,17 +59,17 @@ ended false e = sym e
 pub loop-within : (t : Trace) (l : ℕ) → InRange t → t .ending ≡ Loop l → l < t .cycles
 loop-within t l range e = subst (λ ending. LoopBelow (t .cycles) ending) e (range .loop)
 
-module _ (g : NormalForm) (t : Trace) (l : ℕ) (ok : InNormalForm g) (l<n : l < t .cycles) where
+module _ (g : NormalForm) (t : Trace) (l : ℕ) (ok : InNormalForm g) (l<n : l < t .cycles) (covers : CoversIn g t (Loop l)) where
   pub bits : ℕ → ℕ → Bool
-  bits = true-bits g t l ok l<n .0
+  bits = true-bits g t l ok l<n covers .0
 
   pub true-bit : (k : ℕ) → k < g .rows → (c : ℕ) → c < t .cycles → bits (suc k) c ≡ lassoBit (t .cycles) l (signalAt t) bits (tableOf (g .places) (suc k)) c
   unfolding bits
-  true-bit k h = true-bits g t l ok l<n .1 (suc k) (omega arith)
+  true-bit k h = true-bits g t l ok l<n covers .1 (suc k) (omega arith)
 
   told : (k : ℕ) → k < g .rows → (c : ℕ) → c < t .cycles → TrueIn g t (Loop l) (suc k) c ↔ (bits (suc k) c ≡ true)
   unfolding bits
-  told k h = true-bits g t l ok l<n .2 (suc k) (omega arith)
+  told k h = true-bits g t l ok l<n covers .2 (suc k) (omega arith)
 
   pub record Looping (rounds : ℕ) (cells : List Bool) (words : List ℕ) (sure : List Bool) (done : Bool) : Type 0 where
     pub history : History g t l ok l<n bits true-bit rounds (rowCell cells) (sureIn sure) words
@@ -77,18 +78,18 @@ module _ (g : NormalForm) (t : Trace) (l : ℕ) (ok : InNormalForm g) (l<n : l <
     pub some : done ≡ true → 1 ≤ rounds
 
   module _ (digits : List Bool) (spread : SpreadTo (g .signals) (t .cycles) (t .lanes) digits) where
-    as-recorded : (c : ℕ) → c < t .cycles → (u here : ℕ → Bool) → CycleFrom g (signalsAt digits c) u here → CycleFrom g (signalAt t c) u here
-    as-recorded c h u here made = cycle-alike g ok (signalsAt digits c) (signalAt t c) u u (spread-alike (g .signals) t digits spread c h) (λ k b. refl) here made
+    as-recorded : (c : ℕ) → c < t .cycles → (u here : ℕ → Bool) → CycleFrom g (givenFrom digits c) u here → CycleFrom g (givenAt t c) u here
+    as-recorded c h u here made = cycle-alike g ok (givenFrom digits c) (givenAt t c) (spread-alike g t digits spread c h) u u (λ k b. refl) here made
 
     -- before the first round
     pub loop-first :
         (blank start cells sure : List Bool) (words : List ℕ) → ((k : ℕ) → sureIn sure k ≡ false) → ((k : ℕ) → rowCell blank k ≡ false)
-        → Handed (tableOf (g .places)) (g .rows) (sureIn sure) (rowCell blank) (rowCell start) → CycleFrom g (signalsAt digits l) (rowCell start) (rowCell cells)
+        → Handed (tableOf (g .places)) (g .rows) (sureIn sure) (rowCell blank) (rowCell start) → CycleFrom g (givenFrom digits l) (rowCell start) (rowCell cells)
         → Looping 0 cells words sure false
-    loop-first blank start cells sure words none off given made = record {
+    loop-first blank start cells sure words none off handing made = record {
       history = none-yet g t l ok l<n bits true-bit (rowCell cells) (sureIn sure) words
-          (cycle-alike g ok (signalsAt digits l) (signalAt t l) (rowCell start) (λ k. startOf (tableOf (g .places) k))
-          (spread-alike (g .signals) t digits spread l l<n) (all-start (tableOf (g .places)) (g .rows) (sureIn sure) (rowCell blank) (rowCell start) none off given) (rowCell cells) made)
+          (cycle-alike g ok (givenFrom digits l) (givenAt t l) (spread-alike g t digits spread l l<n) (rowCell start) (λ k. startOf (tableOf (g .places) k))
+          (all-start (tableOf (g .places)) (g .rows) (sureIn sure) (rowCell blank) (rowCell start) none off handing) (rowCell cells) made)
           none;
       unsure = λ e. inl refl;
       all = λ e. absurd (true≢false (sym e));
@@ -99,17 +100,17 @@ module _ (g : NormalForm) (t : Trace) (l : ℕ) (ok : InNormalForm g) (l<n : l <
     pub loop-more :
         (rounds : ℕ) (cells behind cells′ sure sure′ : List Bool) (words words′ : List ℕ) (done′ : Bool) → Looping rounds cells words sure false
         → Handed (tableOf (g .places)) (g .rows) (sureIn sure) (rowCell cells) (rowCell behind)
-        → RoundBack g (signalsAt digits) (t .cycles) l (t .cycles) (λ c. rowCell behind) (rowCell cells′) words′
+        → RoundBack g (givenFrom digits) (t .cycles) l (t .cycles) (λ c. rowCell behind) (rowCell cells′) words′
         → Surveyed (tableOf (g .places)) (g .rows) (rowCell behind) (rowCell cells′) (sureIn sure′)
         → (done′ ≡ true → (k : ℕ) → k < g .rows → sureIn sure′ (suc k) ≡ true)
         → (done′ ≡ false → (k : ℕ) × (k < g .rows) × (sureIn sure′ (suc k) ≡ false)) → Looping (suc rounds) cells′ words′ sure′ done′
-    loop-more rounds cells behind cells′ sure sure′ words words′ done′ before given back surveyed all some =
+    loop-more rounds cells behind cells′ sure sure′ words words′ done′ before handing back surveyed all some =
         let n : ℕ = t .cycles in
         let x : Columns = back .columns in
         let begins : x n ≡ rowCell behind = back .kept n (omega arith) in
         record {
           history = one-more g t l ok l<n bits true-bit (rowCell cells) (sureIn sure) words x (rowCell cells′) (sureIn sure′) words′
-              (subst⁻¹ (λ (y : ℕ → Bool). Handed (tableOf (g .places)) (g .rows) (sureIn sure) (rowCell cells) y) begins given)
+              (subst⁻¹ (λ (y : ℕ → Bool). Handed (tableOf (g .places)) (g .rows) (sureIn sure) (rowCell cells) y) begins handing)
               (λ c a b. as-recorded c b (x (suc c)) (x c) (back .made c a b)) (back .ends)
               (subst⁻¹ (λ (y : ℕ → Bool). Surveyed (tableOf (g .places)) (g .rows) y (x l) (sureIn sure′)) begins
               (subst⁻¹ (λ (y : ℕ → Bool). Surveyed (tableOf (g .places)) (g .rows) (rowCell behind) y (sureIn sure′)) (back .ends) surveyed))
@@ -125,7 +126,7 @@ module _ (g : NormalForm) (t : Trace) (l : ℕ) (ok : InNormalForm g) (l<n : l <
 
     -- the last round goes on to the first cycle, and its lanes are answered
     module _ (rounds : ℕ) (cells left sure : List Bool) (words words′ : List ℕ) (lanes : List Lane) (at : Looping rounds cells words sure true)
-        (goes : (later : Columns) → later l ≡ rowCell cells → RecordedFrom (g .rows) (t .cycles) l words later → RoundBack g (signalsAt digits) (t .cycles) 0 l later (rowCell left) words′)
+        (goes : (later : Columns) → later l ≡ rowCell cells → RecordedFrom (g .rows) (t .cycles) l words later → RoundBack g (givenFrom digits) (t .cycles) 0 l later (rowCell left) words′)
         (shows : (x : Columns) → RecordedFrom (g .rows) (t .cycles) 0 words′ x → (k : ℕ) → k < g .rows → Shows (t .cycles) (laneIn lanes k) (λ c. x c (suc k))) where
       abbrev Answered : Type 0
       Answered = ((k : ℕ) → k < g .rows → (f : ℕ → Bool) × Shows (t .cycles) (laneIn lanes k) f × ((c : ℕ) → c < t .cycles → TrueIn g t (Loop l) (suc k) c ↔ (f c ≡ true))) × ByCycle g t l rounds lanes
@@ -135,7 +136,7 @@ module _ (g : NormalForm) (t : Trace) (l : ℕ) (ok : InNormalForm g) (l<n : l <
       by-rounds (suc r) e h some =
           let back = goes (h .columns r) (h .last .leaves) (h .last .recorded) in
           let x : Columns = back .columns in
-          let stem : (c : ℕ) → c < l → CycleFrom g (signalAt t c) (x (suc c)) (x c) = λ c b. as-recorded c (omega arith) (x (suc c)) (x c) (back .made c (omega arith) b) in
+          let stem : (c : ℕ) → c < l → CycleFrom g (givenAt t c) (x (suc c)) (x c) = λ c b. as-recorded c (omega arith) (x (suc c)) (x c) (back .made c (omega arith) b) in
           let shown = shows x (back .recorded) in (
             λ k b. (
               λ c. x c (suc k),

@@ -4,16 +4,17 @@ use Prim.Native.Nat.{ℕ, suc, _≤_, _<_}
 use mathlib.Core.Path.{_≡_, refl, sym, ap, _∙_}
 use mathlib.Core.Bool.{Bool, true}
 use native.Mathlib.Omega.{arith}
-use Rattle.meaning.specs.Trace.{InfiniteTrace}
 use Rattle.meaning.specs.Satisfaction.{Table}
 use Rattle.meaning.specs.Rows.{Each}
 use Rattle.meaning.specs.Pattern.{Pattern, Pattern.now, Pattern.next, Pattern.connective, Pattern.temporal, patternOf}
 use Rattle.meaning.proofs.Readings.{On}
 use Rattle.meaning.proofs.Rows.{each-zip}
+use Rattle.cycle_rows.specs.Cycle.{Given}
 use Rattle.between_rounds.specs.Between.{everyOperand, sameBit, stays, handed, Surveyed, Handed}
 use Rattle.rounds.specs.Rounds.{Columns, RisesAt}
 use Rattle.rounds.proofs.LassoBits.{lassoBit}
 use Rattle.rounds.proofs.Operands.{LooksAhead, equal-same, every-each, each-every, some-operand}
+use Rattle.rounds.proofs.OneRow.{signalsOf}
 use Rattle.rounds.proofs.OneRound.{Made, Starts, sure-iff, of-earlier, by-rows, sure-right, goes-on, starts-next}
 
 -- ---- how deep it is sure behind a round
@@ -54,25 +55,25 @@ handed-on next b = refl
 handed-on (connective f) b = refl
 handed-on (temporal f w) b = refl
 
-module _ (n l : ℕ) (l<n : l < n) (signals : InfiniteTrace) (t : Table) (rows : ℕ)
+module _ (n l : ℕ) (l<n : l < n) (given : ℕ → Given) (t : Table) (rows : ℕ)
     (operands : (k : ℕ) → k < rows → Each (λ a. (1 ≤ a) × (a < suc k)) (t (suc k)))
-    (bits : ℕ → ℕ → Bool) (true-bit : (k : ℕ) → k < rows → (c : ℕ) → c < n → bits (suc k) c ≡ lassoBit n l signals bits (t (suc k)) c)
-    (x : Columns) (made : Made n signals t rows l x) (starts : Starts l t rows bits (x n)) (sure : ℕ → Bool) (surveyed : Surveyed t rows (x n) (x l) sure)
-    (x′ : Columns) (made′ : Made n signals t rows l x′) (given : Handed t rows sure (x l) (x′ n)) (sure′ : ℕ → Bool) (surveyed′ : Surveyed t rows (x′ n) (x′ l) sure′) where
+    (bits : ℕ → ℕ → Bool) (true-bit : (k : ℕ) → k < rows → (c : ℕ) → c < n → bits (suc k) c ≡ lassoBit n l (signalsOf given) bits (t (suc k)) c)
+    (x : Columns) (made : Made n given t rows l x) (starts : Starts l t rows bits (x n)) (sure : ℕ → Bool) (surveyed : Surveyed t rows (x n) (x l) sure)
+    (x′ : Columns) (made′ : Made n given t rows l x′) (handing : Handed t rows sure (x l) (x′ n)) (sure′ : ℕ → Bool) (surveyed′ : Surveyed t rows (x′ n) (x′ l) sure′) where
   l≤l : l ≤ l
   l≤l = omega arith
 
   starts′ : Starts l t rows bits (x′ n)
-  starts′ = starts-next n l l<n signals t rows operands bits true-bit l l≤l x made starts sure surveyed (x′ n) given
+  starts′ = starts-next n l l<n given t rows operands bits true-bit l l≤l x made starts sure surveyed (x′ n) handing
 
   taken : (k : ℕ) → k < rows → On (everyOperand sure (t (suc k))) → x′ n (suc k) ≡ x l (suc k)
-  taken k h e = given k h ∙ ap (λ b. handed (patternOf (t (suc k))) b (x l (suc k))) e ∙ handed-on (patternOf (t (suc k))) (x l (suc k))
+  taken k h e = handing k h ∙ ap (λ b. handed (patternOf (t (suc k))) b (x l (suc k))) e ∙ handed-on (patternOf (t (suc k))) (x l (suc k))
 
   -- a row that is sure in both stands behind the last cycle as at the loop's
   both : (k : ℕ) → k < rows → On (sure (suc k)) → On (sure′ (suc k)) → On (sameBit (x′ n (suc k)) (x′ l (suc k)))
   both k h e e′ = equal-same (taken k h (sure-iff t rows (x n) (x l) sure surveyed k h .1 e .0)
-      ∙ sure-right n l l<n signals t rows operands bits true-bit l l≤l x made starts sure surveyed k h e l l≤l l<n
-      ∙ sym (sure-right n l l<n signals t rows operands bits true-bit l l≤l x′ made′ starts′ sure′ surveyed′ k h e′ l l≤l l<n))
+      ∙ sure-right n l l<n given t rows operands bits true-bit l l≤l x made starts sure surveyed k h e l l≤l l<n
+      ∙ sym (sure-right n l l<n given t rows operands bits true-bit l l≤l x′ made′ starts′ sure′ surveyed′ k h e′ l l≤l l<n))
 
   made-sure : (k : ℕ) → k < rows → Each (λ a. On (sure a) → On (sure′ a)) (t (suc k)) → On (everyOperand sure (t (suc k))) → On (sure′ (suc k))
   made-sure k h on e = sure-iff t rows (x′ n) (x′ l) sure′ surveyed′ k h .0 (e′, by (patternOf (t (suc k))) (λ f w z. z))
@@ -92,8 +93,8 @@ module _ (n l : ℕ) (l<n : l < n) (signals : InfiniteTrace) (t : Table) (rows :
           (of-earlier t rows operands (λ a. On (sure a) → On (sure′ a) → On (sameBit (x′ n a) (x′ l a))) k h (λ j m. both j (omega arith))) ops) ops′)
       by (connective f) is = refl
       by (temporal f w) is = equal-same (taken k h e
-          ∙ goes-on n l l<n signals t rows operands bits true-bit l l≤l x made starts sure surveyed k h e f w (is f w refl)
-          ∙ sym (goes-on n l l<n signals t rows operands bits true-bit l l≤l x′ made′ starts′ sure′ surveyed′ k h e′ f w (is f w refl)))
+          ∙ goes-on n l l<n given t rows operands bits true-bit l l≤l x made starts sure surveyed k h e f w (is f w refl)
+          ∙ sym (goes-on n l l<n given t rows operands bits true-bit l l≤l x′ made′ starts′ sure′ surveyed′ k h e′ f w (is f w refl)))
 
   -- WHAT IS SURE STAYS SURE
   pub stays-sure : (k : ℕ) → k < rows → sure (suc k) ≡ true → sure′ (suc k) ≡ true

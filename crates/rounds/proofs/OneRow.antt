@@ -17,7 +17,7 @@ use Rattle.meaning.specs.Pattern.{left, right, patternOf, keepBit, goalBit, con
 use Rattle.meaning.specs.Approximant.{expand, approximant}
 use Rattle.meaning.proofs.Readings.{On}
 use Rattle.meaning.proofs.Rows.{each-map, each-zip}
-use Rattle.cycle_rows.specs.Cycle.{patternFrom, rowFrom}
+use Rattle.cycle_rows.specs.Cycle.{Given, patternFrom, rowFrom}
 use Rattle.between_rounds.specs.Between.{sameBit, stays}
 use Rattle.rounds.specs.Rounds.{Columns}
 use Rattle.rounds.proofs.LassoBits.{patternLasso, lassoBit}
@@ -68,8 +68,15 @@ StartsAt at-loop behind next = Unit {0}
 StartsAt at-loop behind (connective f) = Unit {0}
 StartsAt at-loop behind (temporal f w) = (behind ≡ w) ⊎ (behind ≡ at-loop)
 
-module _ (n l : ℕ) (l<n : l < n) (signals : InfiniteTrace) (bits : ℕ → ℕ → Bool) (from : ℕ) (from≤l : from ≤ l) (x : Columns)
+-- the signals that are given
+abbrev pub signalsOf : (ℕ → Given) → InfiniteTrace
+signalsOf given c = given c .signals
+
+module _ (n l : ℕ) (l<n : l < n) (given : ℕ → Given) (bits : ℕ → ℕ → Bool) (from : ℕ) (from≤l : from ≤ l) (x : Columns)
     (r : Row) (k : ℕ) (operands : Each (Right n bits from x) r) where
+  abbrev signals : InfiniteTrace
+  signals = signalsOf given
+
   abbrev p : ℕ → Bool
   p = operandBits signals bits (left r)
 
@@ -119,7 +126,7 @@ module _ (n l : ℕ) (l<n : l < n) (signals : InfiniteTrace) (bits : ℕ → ℕ
           ahead l (each-zip _ _ _ (λ a e s. ap (λ i. x i a) last ∙ same-equal (x n a) (x l a) s ∙ e l from≤l l<n) r operands same)
           ∙ sym (true-bit c b ∙ ap (λ v. pick v (q (suc c)) (q l)) (le-ltb (suc c) n (omega arith)))
 
-  module _ (filled : (c : ℕ) → from ≤ c → c < n → x c k ≡ rowFrom (signals c) (x c) (x (suc c)) r k)
+  module _ (filled : (c : ℕ) → from ≤ c → c < n → x c k ≡ rowFrom (given c) (x c) (x (suc c)) r k)
       (true-bit : (c : ℕ) → c < n → bits k c ≡ lassoBit n l signals bits r c) (starts : StartsAt (bits k l) (x n k) (patternOf r)) where
     pub row-at-loop : (f w : Bool) → patternOf r ≡ temporal f w → x l k ≡ bits k l
     row-at-loop f w e = loop-right f w (subst FilledBy e filled) (subst TrueBy e true-bit) (subst (StartsAt (bits k l) (x n k)) e starts)

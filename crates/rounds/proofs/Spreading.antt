@@ -1,5 +1,5 @@
 -- The signals by cycle, one after the other. Assumes nothing.
-use Prim.Native.Nat.{ℕ, _+_, _-_, _*_, _≤_, _<_}
+use Prim.Native.Nat.{ℕ, _+_, _-_, _*_, _<_}
 use mathlib.Core.Path.{_≡_, refl, _∙_}
 use mathlib.Core.Bool.{Bool, false}
 use mathlib.Core.List.{List}
@@ -8,11 +8,13 @@ use native.Mathlib.Decide.{ℕ-discrete}
 use lib.ListN.{length, getD, set, length-set}
 use lib.Seq.{getD-set-same, getD-set-other}
 use Rattle.tables.specs.Bit.{bitAt}
+use Rattle.tables.specs.declared.row.NormalForm.{NormalForm}
 use Rattle.tables.specs.declared.trace.Lane.{Lane}
 use Rattle.tables.specs.declared.trace.Trace.{Trace}
-use Rattle.meaning.specs.Trace.{signalAt}
 use Rattle.lanes.specs.Truth.{laneIn}
-use Rattle.rounds.specs.Recorded.{SpreadTo, signalsAt}
+use Rattle.cycle_rows.proofs.Only.{GivenAlike}
+use Rattle.rounds.specs.Rounds.{givenAt}
+use Rattle.rounds.specs.Recorded.{SpreadTo, givenFrom}
 
 -- ---- one signal: its first c cycles are put
 pub record SignalTo (lane : Lane) (s : ℕ) (before : List Bool) (c : ℕ) (digits : List Bool) : Type 0 where
@@ -48,6 +50,6 @@ spread-more lanes digits after s cycles done h put others u c m l = by (ℕ-disc
     by (no q) = others u c (omega arith) q ∙ done u c (omega arith) l
 
 -- they are those of the recording
-pub spread-alike : (signals : ℕ) (t : Trace) (digits : List Bool) → SpreadTo signals (t .cycles) (t .lanes) digits → (c : ℕ) → c < t .cycles
-    → (i : ℕ) → 1 ≤ i → i ≤ signals → signalsAt digits c i ≡ signalAt t c i
-spread-alike signals t digits spread c h i p q = spread (i - 1) c (omega arith) h
+pub spread-alike : (g : NormalForm) (t : Trace) (digits : List Bool) → SpreadTo (g .signals) (t .cycles) (t .lanes) digits → (c : ℕ) → c < t .cycles
+    → GivenAlike g (givenFrom digits c) (givenAt t c)
+spread-alike g t digits spread c h = record { signals = λ i p q. spread (i - 1) c (omega arith) h }

@@ -8,45 +8,33 @@ use lib.ListN.{replicate}
 use borrow.Author.Tests.{le-ltb}
 use Rattle.tables.specs.Bit.{wordFrom}
 use Rattle.tables.specs.Choice.{pick}
-use Rattle.tables.specs.declared.row.BinaryKind.{BinaryKind}
-use Rattle.tables.specs.declared.row.BinaryKind.the-variants.{And, Or, Weak, Until, Release, Srelease}
-use Rattle.tables.specs.declared.row.UnaryKind.{UnaryKind}
-use Rattle.tables.specs.declared.row.UnaryKind.the-variants.{Not, Next, Always, Ever}
 use Rattle.tables.specs.declared.row.Row.{Row}
 use Rattle.tables.specs.declared.row.Row.the-variants.{Constant, Signal, Unary, Binary}
 use Rattle.tables.proofs.Places.{replicate-at}
 use Rattle.meaning.specs.Satisfaction.{Table}
-use Rattle.meaning.specs.Pattern.{patternOf}
+use Rattle.meaning.specs.Pattern.{Pattern, Pattern.now, Pattern.next, Pattern.connective, Pattern.temporal, patternOf}
 use Rattle.between_rounds.specs.Between.{everyOperand, handed, Handed}
-use Rattle.rounds.specs.Rounds.{Columns, startOf}
+use Rattle.rounds.specs.Rounds.{Columns, startFor, startOf}
 use Rattle.rounds.specs.Recorded.{RecordedFrom}
 
 -- a row starts anew where nothing is sure
-unary-start : (c : UnaryKind) (a : ℕ) → handed (patternOf (Unary c a)) false false ≡ startOf (Unary c a)
-unary-start Not a = refl
-unary-start Next a = refl
-unary-start Always a = refl
-unary-start Ever a = refl
-
-binary-start : (c : BinaryKind) (a b : ℕ) → handed (patternOf (Binary c a b)) false false ≡ startOf (Binary c a b)
-binary-start And a b = refl
-binary-start Or a b = refl
-binary-start Weak a b = refl
-binary-start Until a b = refl
-binary-start Release a b = refl
-binary-start Srelease a b = refl
+pattern-start : (p : Pattern) → handed p false false ≡ startFor p
+pattern-start now = refl
+pattern-start next = refl
+pattern-start (connective f) = refl
+pattern-start (temporal f w) = refl
 
 row-start : (r : Row) → handed (patternOf r) (everyOperand (λ k. false) r) false ≡ startOf r
 row-start (Constant c) = refl
 row-start (Signal c s) = refl
-row-start (Unary c a) = unary-start c a
-row-start (Binary c a b) = binary-start c a b
+row-start (Unary c a) = pattern-start (patternOf (Unary c a))
+row-start (Binary c a b) = pattern-start (patternOf (Binary c a b))
 
 pub all-start :
     (t : Table) (rows : ℕ) (sure left behind : ℕ → Bool) → ((k : ℕ) → sure k ≡ false) → ((k : ℕ) → left k ≡ false) → Handed t rows sure left behind
     → (k : ℕ) → k < rows → behind (suc k) ≡ startOf (t (suc k))
-all-start t rows sure left behind none off given k h =
-    given k h ∙ ap₂ (λ (f : ℕ → Bool) x. handed (patternOf (t (suc k))) (everyOperand f (t (suc k))) x) (fun-ext none) (off (suc k)) ∙ row-start (t (suc k))
+all-start t rows sure left behind none off handing k h =
+    handing k h ∙ ap₂ (λ (f : ℕ → Bool) x. handed (patternOf (t (suc k))) (everyOperand f (t (suc k))) x) (fun-ext none) (off (suc k)) ∙ row-start (t (suc k))
 
 -- ---- no cycle is recorded
 

@@ -10,7 +10,7 @@ use Rattle.tables.specs.Bit.{bitAt, wordFrom}
 use Rattle.tables.specs.declared.row.NormalForm.{NormalForm}
 use Rattle.tables.specs.declared.trace.Lane.{Lane}
 use Rattle.lanes.specs.Truth.{laneIn}
-use Rattle.cycle_rows.specs.Cycle.{CycleFrom}
+use Rattle.cycle_rows.specs.Cycle.{CycleFrom, Given}
 use Rattle.rounds.specs.Rounds.{Columns}
 
 -- the cycles from `from` on of so many rows over n cycles
@@ -22,15 +22,15 @@ RecordedFrom rows n from words columns = (k w : ℕ) → k < rows → w < 4
 abbrev pub SpreadTo : ℕ → ℕ → List Lane → List Bool → Type 0
 SpreadTo signals cycles lanes digits = (s c : ℕ) → s < signals → c < cycles → getD digits (32 * c + s) false ≡ bitAt (laneIn lanes s) c
 
--- by the signals' numbers, which count from 1
-abbrev pub signalsAt : List Bool → ℕ → ℕ → Bool
-signalsAt digits c s = getD digits (32 * c + (s - 1)) false
+-- what cycle c is given, by the signals' numbers, which count from 1
+abbrev pub givenFrom : List Bool → ℕ → Given
+givenFrom digits c = record { signals = λ s. getD digits (32 * c + (s - 1)) false }
 
 -- a round goes on from `to` back to `from`: the columns from there on, of which the later ones stood before
-pub record RoundBack (g : NormalForm) (signals : ℕ → ℕ → Bool) (n from to : ℕ) (later : Columns)
+pub record RoundBack (g : NormalForm) (given : ℕ → Given) (n from to : ℕ) (later : Columns)
     (left : ℕ → Bool) (words : List ℕ) : Type 0 where
   pub columns : Columns
   pub kept : (c : ℕ) → to ≤ c → columns c ≡ later c
-  pub made : (c : ℕ) → from ≤ c → c < to → CycleFrom g (signals c) (columns (suc c)) (columns c)
+  pub made : (c : ℕ) → from ≤ c → c < to → CycleFrom g (given c) (columns (suc c)) (columns c)
   pub ends : columns from ≡ left
   pub recorded : RecordedFrom (g .rows) n from words columns

@@ -4,6 +4,7 @@ use tables::trace::Lane;
 use tables::trace::Trace;
 ghost use mathlib.Core.Path.{_≡_};
 ghost use Rattle.tables.specs.declared.trace.Ending.the-variants.{Loop};
+ghost use Rattle.meaning.specs.Covers.{CoversIn};
 ghost use Rattle.normal_form.specs.Form.{InNormalForm};
 ghost use Rattle.take_file.specs.Valid.{InRange};
 ghost use Rattle.lanes.specs.Truth.{Filled};
@@ -16,7 +17,7 @@ pub struct Looped {
 }
 
 pub fn fill_looped(form: NormalForm, trace: Trace, start: u16) -> Looped
-    requires { ⌜ InNormalForm form × InRange trace × (trace .ending ≡ Loop start) ⌝ }
+    requires { ⌜ InNormalForm form × InRange trace × (trace .ending ≡ Loop start) × CoversIn form trace (Loop start) ⌝ }
     ensures filled { λ r. ⌜ Filled form trace (r .lanes) ⌝ }
     ensures rounds { λ r. ⌜ ByCycle form trace start (r .rounds) (r .lanes) ⌝ }
 {

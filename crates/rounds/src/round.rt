@@ -9,7 +9,7 @@ ghost use Rattle.cycle_rows.specs.Cycle.{CycleFrom};
 ghost use Rattle.cycle_rows.specs.Cells.{rowCell};
 ghost use Rattle.cycle_rows.specs.Steps.{StepsOf};
 ghost use Rattle.rounds.specs.Rounds.{Columns};
-ghost use Rattle.rounds.specs.Recorded.{RecordedFrom, RoundBack, signalsAt};
+ghost use Rattle.rounds.specs.Recorded.{RecordedFrom, RoundBack, givenFrom};
 
 // The signals of a cycle into their cells.
 fn put_signals(digits: &[bool; 8192], cycle: usize, cells: &mut [bool; 160])
@@ -37,7 +37,7 @@ pub fn fill_at(
 )
     requires { ⌜ ((g : NormalForm) × InNormalForm g × (g .rows ≡ rows) × StepsOf g (now order) (now truth)) × (cycle < 256) ⌝ }
     ensures filled { λ r. ⌜ ((g : NormalForm) → InNormalForm g → g .rows ≡ rows → StepsOf g (now (order .entry)) (now (truth .entry))
-        → CycleFrom g (signalsAt (now (digits .entry)) cycle) (rowCell (now (cells .entry))) (rowCell (now (cells .exit)))) ⌝ }
+        → CycleFrom g (givenFrom (now (digits .entry)) cycle) (rowCell (now (cells .entry))) (rowCell (now (cells .exit)))) ⌝ }
 {
     put_signals(digits, cycle, &mut *cells);
     cycle_rows::fill_cycle(rows, order, truth, &mut *cells);
@@ -58,7 +58,7 @@ pub fn go_back(
     ensures gone { λ r. ⌜ ((g : NormalForm) → InNormalForm g → g .rows ≡ rows → StepsOf g (now (order .entry)) (now (truth .entry))
         → (n : ℕ) (later : Columns) → to ≤ n → later to ≡ rowCell (now (cells .entry))
         → RecordedFrom rows n to (now (words .entry)) later
-        → RoundBack g (signalsAt (now (digits .entry))) n from to later (rowCell (now (cells .exit))) (now (words .exit))) ⌝ }
+        → RoundBack g (givenFrom (now (digits .entry))) n from to later (rowCell (now (cells .exit))) (now (words .exit))) ⌝ }
 {
     let mut c = to;
     while c > from {

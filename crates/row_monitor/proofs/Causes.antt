@@ -15,7 +15,7 @@ use Rattle.tables.specs.declared.row.Row.{Row}
 use Rattle.tables.specs.declared.row.Row.the-variants.{Constant, Signal, Unary, Binary}
 use Rattle.meaning.specs.Pattern.{Pattern, Pattern.now, Pattern.next, Pattern.connective, Pattern.temporal, connectiveBit}
 use Rattle.monitors.specs.declared.Output.{Output}
-use Rattle.monitors.specs.declared.State.{State}
+use Rattle.monitors.specs.declared.RowState.{RowState}
 use Rattle.monitors.specs.Monitor.{constantMonitor, signalMonitor, unaryMonitor, binaryMonitor, rowMonitor}
 use Rattle.monitors.proofs.ByPattern.{doneBit, needBit, patternMonitor, each-pattern}
 
@@ -49,11 +49,11 @@ by-alone true p = refl
 by-alone false true = refl
 by-alone false false = refl
 
-abbrev pub most : State
+abbrev pub most : RowState
 most = record { active = true; pending = true }
 
 module _ (z p : Bool) where
-  abbrev FailedBy : (State → Output) → Type 0
+  abbrev FailedBy : (RowState → Output) → Type 0
   FailedBy m = m (record { active = z; pending = p }) .failed
       ≡ ((z && m (record { active = true; pending = false }) .failed) || (p && m (record { active = false; pending = true }) .failed))
 
@@ -67,7 +67,7 @@ module _ (z p : Bool) where
   pub failed-by : (a b : Bool) (r : Row) → FailedBy (rowMonitor r a b)
   failed-by a b r = each-pattern FailedBy pattern-failed r a b
 
-  abbrev PendingBy : (State → Output) → Type 0
+  abbrev PendingBy : (RowState → Output) → Type 0
   PendingBy m = m (record { active = z; pending = p }) .pending
       ≡ ((z && m (record { active = true; pending = false }) .pending) || (p && m (record { active = false; pending = true }) .pending))
 
@@ -82,25 +82,25 @@ module _ (z p : Bool) where
   pending-by a b r = each-pattern PendingBy pattern-pending r a b
 
 -- where a row's monitor accepts while it waits, it always does; where it is not pending, it does
-abbrev Accepts : (Bool → Bool → State → Output) → Bool → Bool → State → Type 0
+abbrev Accepts : (Bool → Bool → RowState → Output) → Bool → Bool → RowState → Type 0
 Accepts m a b s = (m false false most .accept ≡ true) ⊎ (m a b s .pending ≡ false) → m a b s .accept ≡ true
 
-constant-accepts : (c : ConstantKind) (a b : Bool) (s : State) → Accepts (λ a b. constantMonitor c) a b s
+constant-accepts : (c : ConstantKind) (a b : Bool) (s : RowState) → Accepts (λ a b. constantMonitor c) a b s
 constant-accepts True a b s h = refl
 constant-accepts False a b s h = refl
 
-signal-accepts : (c : SignalKind) (a b : Bool) (s : State) → Accepts (λ a b. signalMonitor c a) a b s
+signal-accepts : (c : SignalKind) (a b : Bool) (s : RowState) → Accepts (λ a b. signalMonitor c a) a b s
 signal-accepts Sig a b s h = refl
 signal-accepts Nsig a b s h = refl
 
-unary-accepts : (c : UnaryKind) (a b : Bool) (s : State) → Accepts (λ a b. unaryMonitor c a) a b s
+unary-accepts : (c : UnaryKind) (a b : Bool) (s : RowState) → Accepts (λ a b. unaryMonitor c a) a b s
 unary-accepts Not a b s h = refl
 unary-accepts Next a b s h = refl
 unary-accepts Always a b s h = refl
 unary-accepts Ever a b s (inl e) = absurd (true≢false (sym e))
 unary-accepts Ever a b s (inr e) = ap not e
 
-binary-accepts : (c : BinaryKind) (a b : Bool) (s : State) → Accepts (binaryMonitor c) a b s
+binary-accepts : (c : BinaryKind) (a b : Bool) (s : RowState) → Accepts (binaryMonitor c) a b s
 binary-accepts And a b s h = refl
 binary-accepts Or a b s h = refl
 binary-accepts Weak a b s h = refl
@@ -110,7 +110,7 @@ binary-accepts Release a b s h = refl
 binary-accepts Srelease a b s (inl e) = absurd (true≢false (sym e))
 binary-accepts Srelease a b s (inr e) = ap not e
 
-pub accepts : (r : Row) (a b : Bool) (s : State) → Accepts (rowMonitor r) a b s
+pub accepts : (r : Row) (a b : Bool) (s : RowState) → Accepts (rowMonitor r) a b s
 accepts (Constant c) = constant-accepts c
 accepts (Signal c n) = signal-accepts c
 accepts (Unary c n) = unary-accepts c

@@ -1,6 +1,6 @@
 // The monitor of one row along the take.
 use crate::word;
-use monitors::State;
+use monitors::RowState;
 use tables::row::Row;
 use tables::trace::Lane;
 ghost use mathlib.Core.Path.{_≡_};
@@ -68,7 +68,7 @@ pub fn monitor_row(row: Row, reads: Reads, course: Course) -> RowReport
         accepted: false,
     };
     // no row waits more than this: where it accepts so, it always does
-    let most = State {
+    let most = RowState {
         active: true,
         pending: true,
     };
@@ -87,7 +87,7 @@ pub fn monitor_row(row: Row, reads: Reads, course: Course) -> RowReport
                 continue;
             }
         }
-        let state = State {
+        let state = RowState {
             active: lanes::lane::bit(reads.active, c as usize),
             pending: report.pending,
         };

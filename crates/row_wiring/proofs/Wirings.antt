@@ -3,7 +3,7 @@ use Prim.Native.Nat.{ℕ, _+_, _*_, _-_, _≤_, _<_}
 use mathlib.Core.Path.{_≡_, refl, ap, ap₂, _∙_}
 use native.Mathlib.Omega.{arith}
 use Rattle.tables.specs.declared.row.NormalForm.{NormalForm}
-use Rattle.monitor_circuit.specs.Monitors.{activatorLiteral, gateLiteral, latchLiteral}
+use Rattle.monitor_circuit.specs.Monitors.{activatorLiteral, gateLiteral, stateLiterals}
 use Rattle.monitor_circuit.specs.Wiring.{Operands, Wiring, awaits, checks, waits}
 use Rattle.row_wiring.specs.declared.Own.{Own}
 use Rattle.row_wiring.specs.Own.{Small, ownOf}
@@ -46,7 +46,7 @@ module _ (signals rows k : ℕ) where
 pub own-literals : (g : NormalForm) (k : ℕ)
     → ownOf (g .signals) (g .rows) k ≡ record {
       activator = activatorLiteral g k;
-      latch = latchLiteral g k;
+      latch = stateLiterals g .pending k;
       first = gateLiteral g 1 k;
       second = gateLiteral g 2 k;
       third = gateLiteral g 3 k;

@@ -16,19 +16,19 @@ use Rattle.tables.specs.declared.trace.Activation.{Activation}
 use Rattle.tables.specs.declared.trace.Trace.{Trace}
 use Rattle.tables.proofs.Choices.{clash}
 use Rattle.rule_file.specs.Valid.{InRange as FormulaInRange}
-use Rattle.take_file.specs.Valid.{InRange as TraceInRange}
 use Rattle.sheet_file.specs.Written.{writtenSheet}
 use Rattle.meaning.proofs.Readings.{on-and-off}
 use Rattle.normal_form.specs.declared.sign.Sign.the-variants.{Plain}
 use Rattle.normal_form.specs.Numbering.{normalForm}
 use Rattle.normal_form.proofs.Ranges.{form-normal}
 use Rattle.monitors.specs.Sheet.{activatorAt}
-use Rattle.meeting.specs.Meeting.{ownOutcome, meetingOutcome}
+use Rattle.meeting.proofs.Covered.{HaveMet, met-form, met-range}
+use Rattle.meeting.specs.Meeting.{ownOutcome, meetingOutcome, coveredTake}
 use Rattle.meeting.specs.declared.Wanted.the-variants.{Either}
 use Rattle.sheet_maker.specs.Length.{sheetLength}
 use Rattle.sheet_maker.specs.Made.{Satisfied, IsMade}
 use Rattle.sheet_maker.proofs.Lengths.{sheet-size}
-use Rattle.sheet_maker.proofs.Sheets.{root-set, made-unique}
+use Rattle.sheet_maker.proofs.Sheets.{made-met, root-set, made-unique}
 use Rattle.writing.specs.declared.answer.Bytes.{Bytes}
 use Rattle.writing.specs.declared.answer.Bytes.the-variants.{Count, Refused as BytesRefused}
 use Rattle.sheet_length.specs.Answer.{Measured, Measured.sheet, Measured.none, MeasuresOn, Measures}
@@ -46,7 +46,7 @@ never-refused (none s p) = clash (cc)
 module _ (f : Formula) (t : Trace) (answer reply : Bytes) where
   measured-once : FormulaInRange f → Measured f t answer → Measured f t reply → answer ≡ reply
   measured-once fine (sheet s a made p) (sheet r b again q) =
-      p ∙ ap (λ x. Count (length x)) (made-unique (normalForm f Plain) t a b (form-normal f Plain fine .most-rows) made again) ∙ sym q
+      p ∙ ap (λ x. Count (length x)) (made-unique (normalForm f Plain) (coveredTake f t) a b (form-normal f Plain fine .most-rows) made again) ∙ sym q
   measured-once fine (sheet s a made p) (none r q) = absurd (r s)
   measured-once fine (none s p) (sheet r b again q) = absurd (s r)
   measured-once fine (none s p) (none r q) = p ∙ sym q
@@ -63,14 +63,14 @@ module _ (o : Outcome) (f : Formula) (t : Trace) (fine : o ≡ Accepted → Form
   pub refused-measures : {why : Refusal} → o ≡ Refused why → TheOnly (MeasuresOn o f t) (BytesRefused why)
   refused-measures {why} e = only-measures (BytesRefused why) (subst⁻¹ (λ o. MeasuresOn o f t (BytesRefused why)) e refl)
 
-  module _ (range : TraceInRange t) (a : Activation) (made : IsMade (normalForm f Plain) t a) (e : o ≡ Accepted) {b : Bool} (bit : b ≡ activatorAt a 0 (a .rows)) where
+  module _ {g : NormalForm} {u : Trace} (met : HaveMet f t g u) {a : Activation} (made : IsMade g u a) (e : o ≡ Accepted) {b : Bool} (bit : b ≡ activatorAt a 0 (a .rows)) where
     root : (b ≡ true) ↔ Satisfied f t
-    root = root-set f t (fine e) a (range .some-cycles) made bit
+    root = root-set met made bit
 
     pub sheet-measures : b ≡ true → {n : ℕ} → n ≡ sheetLength (a .rows) (a .cycles) → TheOnly (MeasuresOn o f t) (Count n)
     sheet-measures y {n} p =
-        let size = made-size (normalForm f Plain) t a (form-normal f Plain (fine e) .most-rows) (range .most-cycles) made in
-        only-measures (Count n) (subst⁻¹ (λ o. MeasuresOn o f t (Count n)) e (sheet (root .0 y) a made (ap Count (p ∙ sym size))))
+        let size = made-size g u a (met-form met .most-rows) (met-range met .most-cycles) made in
+        only-measures (Count n) (subst⁻¹ (λ o. MeasuresOn o f t (Count n)) e (sheet (root .0 y) a (made-met met made) (ap Count (p ∙ sym size))))
 
     pub none-measures : b ≡ false → TheOnly (MeasuresOn o f t) (Count 0)
     none-measures n = only-measures (Count 0) (subst⁻¹ (λ o. MeasuresOn o f t (Count 0)) e (none (λ x. on-and-off (root .1 x) n) refl))

@@ -28,7 +28,7 @@ use Rattle.sheet_file.specs.Written.{writtenSheet}
 use Rattle.normal_form.specs.declared.sign.Sign.the-variants.{Plain}
 use Rattle.normal_form.specs.Numbering.{normalForm}
 use Rattle.normal_form.proofs.Ranges.{form-normal}
-use Rattle.meeting.specs.Meeting.{pairOutcome}
+use Rattle.meeting.specs.Meeting.{pairOutcome, coveredTake}
 use Rattle.meeting.specs.declared.Wanted.the-variants.{Either}
 use Rattle.sheet_maker.specs.declared.MakerAnswer.{MakerAnswer}
 use Rattle.sheet_maker.specs.declared.MakerAnswer.the-variants.{Written, None, Refused as MakerRefused}
@@ -58,7 +58,7 @@ turned (BytesRefused told) q = cc
 module _ (f : Formula) (t : Trace) (before after : List ℕ) (answer : MakerAnswer) where
   -- what length service and sheet maker say of the same tables: of one sheet, or both of none
   pub data Both (n : ℕ) : Type 0 where
-    some-sheet : (a : Activation) → IsMade (normalForm f Plain) t a → n ≡ length (writtenSheet a) → answer ≡ answerOf (writtenAnswer (writtenSheet a) before)
+    some-sheet : (a : Activation) → IsMade (normalForm f Plain) (coveredTake f t) a → n ≡ length (writtenSheet a) → answer ≡ answerOf (writtenAnswer (writtenSheet a) before)
         → after ≡ overlaid (writtenSheet a) before → Both n
     no-sheet : n ≡ 0 → answer ≡ None → after ≡ before → Both n
 
@@ -66,7 +66,7 @@ module _ (f : Formula) (t : Trace) (before after : List ℕ) (answer : MakerAnsw
   pub both-on : (n : ℕ) (o : Outcome) → (o ≡ Accepted → FormulaInRange f) → MeasuresOn o f t (Count n) → MakesOn o f t before after answer → Both n
   both-on n (Refused why) fine m makes = clash (cc)
   both-on n Accepted fine (sheet s a made p) (sheet r b again u w) =
-      let same : writtenSheet a ≡ writtenSheet b = made-unique (normalForm f Plain) t a b (form-normal f Plain (fine refl) .most-rows) made again in
+      let same : writtenSheet a ≡ writtenSheet b = made-unique (normalForm f Plain) (coveredTake f t) a b (form-normal f Plain (fine refl) .most-rows) made again in
       let size : n ≡ length (writtenSheet a) = cc in
       some-sheet b again (size ∙ ap length same) u w
   both-on n Accepted fine (sheet s a made p) (none r u w) = absurd (r s)
@@ -77,7 +77,7 @@ module _ (f : Formula) (t : Trace) (before after : List ℕ) (answer : MakerAnsw
   written-there n (some-sheet a made e u w) some h = u ∙ ap answerOf (room-enough (writtenSheet a) before (omega (arith, e))) ∙ rw e refl
   written-there n (no-sheet e u w) some h = absurd (omega arith)
 
-  filled-there : (n : ℕ) → Both n → 0 < n → length before ≡ n → (a : Activation) × IsMade (normalForm f Plain) t a × (after ≡ writtenSheet a)
+  filled-there : (n : ℕ) → Both n → 0 < n → length before ≡ n → (a : Activation) × IsMade (normalForm f Plain) (coveredTake f t) a × (after ≡ writtenSheet a)
   filled-there n (some-sheet a made e u w) some h = (a, made, w ∙ room-exact (writtenSheet a) before (h ∙ e))
   filled-there n (no-sheet e u w) some h = absurd (omega arith)
 
@@ -106,7 +106,7 @@ module _ (f : Formula) (t : Trace) (before after : List ℕ) (answer : MakerAnsw
     enough-written = written-there n both
 
     -- with just that many it fills them with the sheet's file
-    pub exact-filled : 0 < n → length before ≡ n → (a : Activation) × IsMade (normalForm f Plain) t a × (after ≡ writtenSheet a)
+    pub exact-filled : 0 < n → length before ≡ n → (a : Activation) × IsMade (normalForm f Plain) (coveredTake f t) a × (after ≡ writtenSheet a)
     exact-filled = filled-there n both
 
     -- WITH FEWER it is refused with 10, and leaves the buffer alone

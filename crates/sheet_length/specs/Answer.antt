@@ -9,7 +9,7 @@ use Rattle.tables.specs.declared.trace.Trace.{Trace}
 use Rattle.sheet_file.specs.Written.{writtenSheet}
 use Rattle.normal_form.specs.declared.sign.Sign.the-variants.{Plain}
 use Rattle.normal_form.specs.Numbering.{normalForm}
-use Rattle.meeting.specs.Meeting.{pairOutcome}
+use Rattle.meeting.specs.Meeting.{pairOutcome, coveredTake}
 use Rattle.meeting.specs.declared.Wanted.the-variants.{Either}
 use Rattle.sheet_maker.specs.Made.{Satisfied, IsMade}
 use Rattle.writing.specs.declared.answer.Bytes.{Bytes}
@@ -18,7 +18,7 @@ use Rattle.writing.specs.declared.answer.Bytes.the-variants.{Count, Refused as 
 -- "exactly the bytes .. of the sheet for a rule and take": how many the file of the sheet made has; "Where the sheet's answer is `none`,
 -- its length is 0"
 pub data Measured (f : Formula) (t : Trace) (answer : Bytes) : Type 0 where
-  sheet : Satisfied f t → (a : Activation) → IsMade (normalForm f Plain) t a
+  sheet : Satisfied f t → (a : Activation) → IsMade (normalForm f Plain) (coveredTake f t) a
       → answer ≡ Count (length (writtenSheet a)) → Measured f t answer
   none : ¬ Satisfied f t → answer ≡ Count 0 → Measured f t answer
 

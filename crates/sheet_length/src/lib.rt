@@ -22,7 +22,7 @@ pub fn measure_met(formula: Formula, trace: Trace) -> Bytes
     match outcome {
         Outcome::Refused(refusal) => Bytes::Refused(refusal),
         Outcome::Accepted => {
-            let sheet = sheet_maker::truth_sheet(met.form, trace);
+            let sheet = sheet_maker::truth_sheet(met.form, met.covered);
             if sheet_maker::sets_root(sheet) {
                 Bytes::Count(sheet_maker::sheet::sheet_length(sheet.rows, sheet.cycles))
             } else {

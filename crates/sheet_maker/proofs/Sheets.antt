@@ -18,13 +18,15 @@ use Rattle.tables.specs.declared.trace.Ending.the-variants.{Open, Loop}
 use Rattle.tables.specs.declared.trace.Lane.{Lane}
 use Rattle.tables.specs.declared.trace.Trace.{Trace}
 use Rattle.rule_file.specs.Valid.{InRange as FormulaInRange}
-use Rattle.take_file.specs.Valid.{InRange as TraceInRange}
 use Rattle.sheet_file.specs.Written.{rowsOf, writtenSheet}
 use Rattle.normal_form.specs.declared.sign.Sign.the-variants.{Plain}
 use Rattle.normal_form.specs.Form.{InNormalForm}
 use Rattle.normal_form.specs.Numbering.{normalForm}
 use Rattle.normal_form.proofs.Ranges.{form-normal}
 use Rattle.normal_form.proofs.Demand.{satisfied-alike}
+use Rattle.meaning.specs.Reading.{classical}
+use Rattle.meeting.specs.Meeting.{coveredTake, coveredLoop}
+use Rattle.meeting.proofs.Covered.{HaveMet, met-form, met-range, met-open, met-ending, satisfies-covered}
 use Rattle.lanes.specs.Truth.{laneIn, TrueIn, TrueAt, Filled}
 use Rattle.lanes.proofs.Shown.{shown-bit}
 use Rattle.monitors.specs.Sheet.{activatorAt, IsRow}
@@ -56,9 +58,33 @@ module _ (f : Formula) (t : Trace) (fine : FormulaInRange f) where
       let ok : InNormalForm (normalForm f Plain) = form-normal f Plain fine in
       Iff·trans (made .digits (normalForm f Plain .rows) 0 (ok .some-rows, omega arith) some) root-satisfied
 
-  -- the same of a Bool that says whether the sheet sets its root
-  pub root-set : (a : Activation) → 1 ≤ t .cycles → IsMade (normalForm f Plain) t a → {b : Bool} → b ≡ activatorAt a 0 (a .rows) → (b ≡ true) ↔ Satisfied f t
-  root-set a some made bit = subst⁻¹ (λ x. (x ≡ true) ↔ Satisfied f t) (bit ∙ ap (activatorAt a 0) (made .rows)) (made-root a some made)
+-- the rule and the take that have met: what is made is a sheet for the take that it covers
+module _ {f : Formula} {t : Trace} {g : NormalForm} {u : Trace} (met : HaveMet f t g u) where
+  pub satisfied-covered : Satisfied f u ↔ Satisfied f t
+  satisfied-covered = by (t .ending) refl
+    where
+      by : (ending : Ending) → t .ending ≡ ending → Satisfied f u ↔ Satisfied f t
+      by Open e = subst⁻¹ (λ u. Satisfied f u ↔ Satisfied f t) (met-open met e) (λ x. x, λ x. x)
+      by (Loop l) e = subst⁻¹ (λ y. SatisfiedIn f u y ↔ SatisfiedIn f t (t .ending)) (met-ending met l e)
+          (subst⁻¹ (λ y. SatisfiedIn f u (Loop (coveredLoop f t l)) ↔ SatisfiedIn f t y) e (satisfies-covered met classical l e))
+
+  module _ {a : Activation} (made : IsMade g u a) where
+    -- it has room in its table
+    pub rows-met : (1 ≤ a .rows) × (a .rows ≤ 128)
+    rows-met = (omega (arith, made .rows, met-form met .some-rows), omega (arith, made .rows, met-form met .most-rows))
+
+    pub cycles-met : a .cycles ≤ 256
+    cycles-met = omega (arith, made .cycles, met-range met .most-cycles)
+
+    pub made-met : IsMade (normalForm f Plain) (coveredTake f t) a
+    made-met = subst (λ u. IsMade (normalForm f Plain) u a) (met .take) (subst (λ g. IsMade g u a) (met .form) made)
+
+    -- a Bool that says whether it sets its root
+    pub root-set : {b : Bool} → b ≡ activatorAt a 0 (a .rows) → (b ≡ true) ↔ Satisfied f t
+    root-set bit =
+        let form = subst (λ g. IsMade g u a) (met .form) made in
+        subst⁻¹ (λ x. (x ≡ true) ↔ Satisfied f t) (bit ∙ ap (activatorAt a 0) (form .rows))
+        (Iff·trans (made-root f u (met .fine) a (met-range met .some-cycles) form) satisfied-covered)
 
 -- Bools that are on in the same case
 same-on : (P : Type 0) (x y : Bool) → (x ≡ true) ↔ P → (y ≡ true) ↔ P → x ≡ y
@@ -75,21 +101,6 @@ rows-by-place a h =
     ap (map digits) (sym (tabulate-getD (take (a .rows) (a .lanes)) (a .rows) (record { words = [] }) l))
     ∙ map-tabulate digits (a .rows) (laneIn (take (a .rows) (a .lanes)))
     ∙ tabulate-ext (a .rows) _ _ (λ k b. ap digits (getD-take (a .rows) (a .lanes) k (record { words = [] }) b))
-
--- the normal form that the meeting gave, and the sheet made of it: it has room in its table
-module _ (f : Formula) (t : Trace) (fine : FormulaInRange f) (range : TraceInRange t) {g : NormalForm} (same : g ≡ normalForm f Plain) where
-  pub form-met : InNormalForm g
-  form-met = subst⁻¹ InNormalForm same (form-normal f Plain fine)
-
-  module _ {a : Activation} (made : IsMade g t a) where
-    pub made-met : IsMade (normalForm f Plain) t a
-    made-met = subst (λ g. IsMade g t a) same made
-
-    pub rows-met : (1 ≤ a .rows) × (a .rows ≤ 128)
-    rows-met = (omega (arith, made .rows, form-met .some-rows), omega (arith, made .rows, form-met .most-rows))
-
-    pub cycles-met : a .cycles ≤ 256
-    cycles-met = omega (arith, made .cycles, range .most-cycles)
 
 -- THE TEXT OF THE SHEET MADE IS FIXED
 pub made-unique : (g : NormalForm) (t : Trace) (a b : Activation) → g .rows ≤ 128 → IsMade g t a → IsMade g t b → writtenSheet a ≡ writtenSheet b

@@ -10,7 +10,7 @@ use Rattle.tables.specs.declared.trace.Trace.{Trace}
 use Rattle.sheet_file.specs.Written.{writtenSheet}
 use Rattle.normal_form.specs.declared.sign.Sign.the-variants.{Plain}
 use Rattle.normal_form.specs.Numbering.{normalForm}
-use Rattle.meeting.specs.Meeting.{pairOutcome}
+use Rattle.meeting.specs.Meeting.{pairOutcome, coveredTake}
 use Rattle.meeting.specs.declared.Wanted.the-variants.{Either}
 use Rattle.writing.specs.declared.answer.Bytes.{Bytes}
 use Rattle.writing.specs.declared.answer.Bytes.the-variants.{Count, Refused as BytesRefused}
@@ -25,10 +25,10 @@ abbrev pub answerOf : Bytes → MakerAnswer
 answerOf (Count n) = Written n
 answerOf (BytesRefused why) = MakerRefused why
 
--- a sheet, written whole or refused with 10; or "if the rule is not satisfied or not kept, the answer is `none`", and "`none` needs no
--- buffer length and writes nothing"
+-- a sheet for the take that it covers, written whole or refused with 10; or "if the rule is not satisfied or not kept, the answer is
+-- `none`", and "`none` needs no buffer length and writes nothing"
 pub data Answers (f : Formula) (t : Trace) (before after : List ℕ) (answer : MakerAnswer) : Type 0 where
-  sheet : Satisfied f t → (a : Activation) → IsMade (normalForm f Plain) t a
+  sheet : Satisfied f t → (a : Activation) → IsMade (normalForm f Plain) (coveredTake f t) a
       → answer ≡ answerOf (writtenAnswer (writtenSheet a) before)
       → after ≡ overlaid (writtenSheet a) before → Answers f t before after answer
   none : ¬ Satisfied f t → answer ≡ None → after ≡ before → Answers f t before after answer

@@ -13,6 +13,7 @@ ghost use Rattle.tables.specs.Only.{TheOnlyPair};
 ghost use Rattle.rule_file.specs.Valid.{InRange as FormulaInRange};
 ghost use Rattle.take_file.specs.Valid.{InRange as TraceInRange};
 ghost use Rattle.sheet_file.specs.Written.{writtenSheet};
+ghost use Rattle.meaning.specs.Covers.{CoversForm};
 ghost use Rattle.normal_form.specs.Form.{InNormalForm};
 ghost use Rattle.meeting.specs.Meeting.{meetingOutcome, pairOutcome};
 ghost use Rattle.meeting.specs.declared.Wanted.the-variants.{Either};
@@ -41,7 +42,7 @@ fn maker_answer(bytes: Bytes) -> MakerAnswer
 
 // The rows' truth, as a sheet.
 pub fn truth_sheet(form: NormalForm, trace: Trace) -> Activation
-    requires { ⌜ InNormalForm form × TraceInRange trace ⌝ }
+    requires { ⌜ InNormalForm form × TraceInRange trace × CoversForm form trace ⌝ }
     ensures made { λ r. ⌜ IsMade form trace r ⌝ }
 {
     let truth = truth::fill::fill(form, trace);
@@ -87,7 +88,7 @@ pub fn make_met(formula: Formula, trace: Trace, buf: &mut [u8]) -> MakerAnswer
     match outcome {
         Outcome::Refused(refusal) => MakerAnswer::Refused(refusal),
         Outcome::Accepted => {
-            let sheet = truth_sheet(met.form, trace);
+            let sheet = truth_sheet(met.form, met.covered);
             if sets_root(sheet) {
                 maker_answer(write_sheet(sheet, buf))
             } else {

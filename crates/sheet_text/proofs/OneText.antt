@@ -17,7 +17,7 @@ use Rattle.normal_form.specs.declared.sign.Sign.the-variants.{Plain}
 use Rattle.normal_form.specs.Numbering.{normalForm}
 use Rattle.normal_form.proofs.Ranges.{form-normal}
 use Rattle.writing.specs.declared.answer.Bytes.{Bytes}
-use Rattle.meeting.specs.Meeting.{meetingOutcome}
+use Rattle.meeting.specs.Meeting.{meetingOutcome, coveredTake}
 use Rattle.meeting.specs.declared.Wanted.the-variants.{Either}
 use Rattle.writing.specs.Refusal.{Told}
 use Rattle.writing.proofs.Answers.{only-printed}
@@ -26,7 +26,7 @@ use Rattle.sheet_text.specs.Answer.{IsMadeText, IsMadeText.sheet, IsMade
 
 module _ (f : Formula) (t : Trace) (fine : InRange f) (text other : List ℕ) where
   one-made : IsMadeText f t text → IsMadeText f t other → text ≡ other
-  one-made (sheet s a made p) (sheet r b again q) = p ∙ made-unique (normalForm f Plain) t a b (form-normal f Plain fine .most-rows) made again ∙ sym q
+  one-made (sheet s a made p) (sheet r b again q) = p ∙ made-unique (normalForm f Plain) (coveredTake f t) a b (form-normal f Plain fine .most-rows) made again ∙ sym q
   one-made (sheet s a made p) (none r q) = absurd (r s)
   one-made (none s p) (sheet r b again q) = absurd (s r)
   one-made (none s p) (none r q) = p ∙ sym q

@@ -16,7 +16,7 @@ use Rattle.sheet_file.specs.Written.{writtenSheet}
 use Rattle.normal_form.specs.declared.sign.Sign.the-variants.{Plain}
 use Rattle.normal_form.specs.Numbering.{normalForm}
 use Rattle.writing.specs.declared.answer.Bytes.{Bytes}
-use Rattle.meeting.specs.Meeting.{meetingOutcome}
+use Rattle.meeting.specs.Meeting.{meetingOutcome, coveredTake}
 use Rattle.meeting.specs.declared.Wanted.the-variants.{Either}
 use Rattle.writing.specs.Answer.{Printed}
 use Rattle.writing.specs.Refusal.{refusalText, Told}
@@ -28,7 +28,7 @@ noneText = bytes "none" ++ (10 ∷ [])
 
 -- the file of the sheet made; "if the rule is not satisfied or not kept, the answer is `none`"
 pub data IsMadeText (f : Formula) (t : Trace) (text : List ℕ) : Type 0 where
-  sheet : Satisfied f t → (a : Activation) → IsMade (normalForm f Plain) t a → text ≡ writtenSheet a → IsMadeText f t text
+  sheet : Satisfied f t → (a : Activation) → IsMade (normalForm f Plain) (coveredTake f t) a → text ≡ writtenSheet a → IsMadeText f t text
   none : ¬ Satisfied f t → text ≡ noneText → IsMadeText f t text
 
 -- two tables: what is refused of them together, or what is made

@@ -24,7 +24,7 @@ fn sheet_met(formula: Formula, trace: Trace, buf: &mut [u8]) -> Bytes
     match outcome {
         Outcome::Refused(refusal) => deliver_refusal(refusal, buf),
         Outcome::Accepted => {
-            let sheet = sheet_maker::truth_sheet(met.form, trace);
+            let sheet = sheet_maker::truth_sheet(met.form, met.covered);
             if sheet_maker::sets_root(sheet) {
                 sheet_maker::write_sheet(sheet, buf)
             } else {

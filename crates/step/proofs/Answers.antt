@@ -1,5 +1,5 @@
 -- The answer of the step service by its cases. Assumes nothing.
-use Prim.Native.Nat.{ℕ, _*_}
+use Prim.Native.Nat.{ℕ}
 use mathlib.Core.Path.{_≡_, sym, ap, _∙_}
 use mathlib.Core.List.{List, _++_}
 use lib.ListN.{length, drop}
@@ -15,32 +15,32 @@ use Rattle.rule_file.specs.Written.{writtenRule}
 use Rattle.normal_form.specs.declared.sign.Sign.the-variants.{Plain}
 use Rattle.normal_form.specs.Numbering.{normalForm}
 use Rattle.writing.specs.declared.answer.Bytes.the-variants.{Count, Refused as BytesRefused}
-use Rattle.step.specs.Step.{formAnswer, formLeft, formOutcome, formOutput, rowsIn, stepOutcome, stepOutput, stepAnswer, stepLeft}
+use Rattle.step.specs.Step.{formAnswer, formLeft, formOutcome, formOutput, outputSize, rowsIn, stepOutcome, stepOutput, stepAnswer, stepLeft}
 
 module _ (f : Formula) (p a s buf : List ℕ) where
   -- refused: no byte changes
   module _ {r : Refusal} (e : stepOutcome f p a s buf ≡ Refused r) where
     pub refused-both : (BytesRefused r ≡ stepAnswer f p a s buf) × (buf ≡ stepLeft f p a s buf)
     refused-both = (
-      sym (ap (λ o. onOutcome o BytesRefused (Count (3 * rowsIn f))) e),
-      sym (ap (λ o. onOutcome o (λ r. buf) (stepOutput f p a s ++ drop (3 * rowsIn f) buf)) e),
+      sym (ap (λ o. onOutcome o BytesRefused (Count (outputSize (rowsIn f)))) e),
+      sym (ap (λ o. onOutcome o (λ r. buf) (stepOutput f p a s ++ drop (outputSize (rowsIn f)) buf)) e),
     )
 
   -- answered
   module _ (e : stepOutcome f p a s buf ≡ Accepted) where
-    pub answered-answer : stepAnswer f p a s buf ≡ Count (3 * rowsIn f)
-    answered-answer = ap (λ o. onOutcome o BytesRefused (Count (3 * rowsIn f))) e
+    pub answered-answer : stepAnswer f p a s buf ≡ Count (outputSize (rowsIn f))
+    answered-answer = ap (λ o. onOutcome o BytesRefused (Count (outputSize (rowsIn f)))) e
 
-    pub answered-left : stepLeft f p a s buf ≡ stepOutput f p a s ++ drop (3 * rowsIn f) buf
-    answered-left = ap (λ o. onOutcome o (λ r. buf) (stepOutput f p a s ++ drop (3 * rowsIn f) buf)) e
+    pub answered-left : stepLeft f p a s buf ≡ stepOutput f p a s ++ drop (outputSize (rowsIn f)) buf
+    answered-left = ap (λ o. onOutcome o (λ r. buf) (stepOutput f p a s ++ drop (outputSize (rowsIn f)) buf)) e
 
   -- by the rule's own outcome
   module _ (own : outcomeOf 1 (parseRule (writtenRule f)) ≡ Accepted) where
     pub met-answer : stepAnswer f p a s buf ≡ formAnswer (normalForm f Plain) p a s buf
-    met-answer = ap (λ o. onOutcome (andThen o (formOutcome (normalForm f Plain) p a s (length buf))) BytesRefused (Count (3 * rowsIn f))) own
+    met-answer = ap (λ o. onOutcome (andThen o (formOutcome (normalForm f Plain) p a s (length buf))) BytesRefused (Count (outputSize (rowsIn f)))) own
 
     pub met-left : stepLeft f p a s buf ≡ formLeft (normalForm f Plain) p a s buf
-    met-left = ap (λ o. onOutcome (andThen o (formOutcome (normalForm f Plain) p a s (length buf))) (λ r. buf) (stepOutput f p a s ++ drop (3 * rowsIn f) buf)) own
+    met-left = ap (λ o. onOutcome (andThen o (formOutcome (normalForm f Plain) p a s (length buf))) (λ r. buf) (stepOutput f p a s ++ drop (outputSize (rowsIn f)) buf)) own
 
   pub own-refused : {r : Refusal} → outcomeOf 1 (parseRule (writtenRule f)) ≡ Refused r → stepOutcome f p a s buf ≡ Refused r
   own-refused own = ap (λ o. andThen o (formOutcome (normalForm f Plain) p a s (length buf))) own
@@ -52,12 +52,16 @@ module _ (h : NormalForm) (p a s buf : List ℕ) {g : NormalForm} (form : g ≡ 
 
   pub call-refused-both : {r : Refusal} → o ≡ Refused r → (BytesRefused r ≡ formAnswer h p a s buf) × (buf ≡ formLeft h p a s buf)
   call-refused-both e = (
-    sym (ap (λ o. onOutcome o BytesRefused (Count (3 * h .rows))) (outcome ∙ e)),
-    sym (ap (λ o. onOutcome o (λ r. buf) (formOutput h p a s ++ drop (3 * h .rows) buf)) (outcome ∙ e)),
+    sym (ap (λ o. onOutcome o BytesRefused (Count (outputSize (h .rows)))) (outcome ∙ e)),
+    sym (ap (λ o. onOutcome o (λ r. buf) (formOutput h p a s ++ drop (outputSize (h .rows)) buf)) (outcome ∙ e)),
   )
 
-  pub stepped : {m : List ℕ} → o ≡ Accepted → m ≡ formOutput g p a s ++ drop (3 * g .rows) buf → (Count (3 * g .rows) ≡ formAnswer h p a s buf) × (m ≡ formLeft h p a s buf)
-  stepped ok left = (
-    ap (λ (x : NormalForm). Count (3 * x .rows)) form ∙ sym (ap (λ o. onOutcome o BytesRefused (Count (3 * h .rows))) (outcome ∙ ok)),
-    left ∙ (ap (λ (x : NormalForm). formOutput x p a s ++ drop (3 * x .rows) buf) form ∙ sym (ap (λ o. onOutcome o (λ r. buf) (formOutput h p a s ++ drop (3 * h .rows) buf)) (outcome ∙ ok))),
+  pub stepped :
+      {m : List ℕ} {total : ℕ} → o ≡ Accepted → m ≡ formOutput g p a s ++ drop (outputSize (g .rows)) buf → total ≡ outputSize (g .rows)
+      → (Count total ≡ formAnswer h p a s buf) × (m ≡ formLeft h p a s buf)
+  stepped ok left size = (
+    ap Count (size ∙ ap (λ (x : NormalForm). outputSize (x .rows)) form) ∙ sym (ap (λ o. onOutcome o BytesRefused (Count (outputSize (h .rows)))) (outcome ∙ ok)),
+    left
+        ∙ (ap (λ (x : NormalForm). formOutput x p a s ++ drop (outputSize (x .rows)) buf) form
+        ∙ sym (ap (λ o. onOutcome o (λ r. buf) (formOutput h p a s ++ drop (outputSize (h .rows)) buf)) (outcome ∙ ok))),
   )

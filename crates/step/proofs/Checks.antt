@@ -1,6 +1,6 @@
 -- The refusals of a call in their order, and what an accepted call has. Assumes nothing.
-use Prim.Native.Nat.{ℕ, _*_, _≤_, _<_}
-use mathlib.Core.Path.{_≡_, refl, sym, ap₂, _∙_}
+use Prim.Native.Nat.{ℕ, _≤_, _<_}
+use mathlib.Core.Path.{_≡_, refl, sym, ap, ap₂, _∙_}
 use mathlib.Core.Bool.{Bool, true, false, not, _&&_}
 use mathlib.Core.List.{List}
 use lib.Dec.{eqb, leb}
@@ -15,8 +15,9 @@ use Rattle.tables.specs.declared.refusal.Outcome.the-variants.{Accepted}
 use Rattle.tables.specs.declared.row.NormalForm.{NormalForm}
 use Rattle.text.specs.Digits.{areDigits}
 use Rattle.tables.proofs.Choices.{clash}
+use Rattle.monitors.specs.State.{stateSize}
 use Rattle.step.specs.Fitting.{Fitting}
-use Rattle.step.specs.Step.{formOutcome}
+use Rattle.step.specs.Step.{formOutcome, outputSize}
 
 both-on : (a b : Bool) → a && b ≡ true → (a ≡ true) × (b ≡ true)
 both-on true b e = (refl, e)
@@ -27,11 +28,15 @@ module _ (g : NormalForm) (p a s : List ℕ) (room : ℕ) where
   counted = eqb (length s) (g .signals)
 
   abbrev sized : Bool
-  sized = eqb (length p) (g .rows) && eqb (length a) (g .rows)
+  sized = eqb (length p) (stateSize (g .rows)) && eqb (length a) (g .rows)
+
+  -- the test of the sizes with the one that was computed
+  pub measured : {size : ℕ} {b : Bool} → size ≡ stateSize (g .rows) → not (eqb (length p) size && eqb (length a) (g .rows)) ≡ b → not sized ≡ b
+  measured e t = sym (ap (λ n. not (eqb (length p) n && eqb (length a) (g .rows))) e) ∙ t
 
   -- the checks from each on
   abbrev FromRoom : Outcome
-  FromRoom = pick (leb (3 * g .rows) room) Accepted (callRefused ShortBuffer)
+  FromRoom = pick (leb (outputSize (g .rows)) room) Accepted (callRefused ShortBuffer)
 
   abbrev FromSizes : Outcome
   FromSizes = andThen (pick sized Accepted (callRefused SizeDiffers)) FromRoom
@@ -64,11 +69,11 @@ module _ (g : NormalForm) (p a s : List ℕ) (room : ℕ) where
           from-room : FromRoom ≡ formOutcome g p a s room
           from-room = goes FromRoom (passes SizeDiffers (not-false sized m)) refl ∙ from-sizes
 
-          pub too-short : room < 3 * g .rows → callRefused ShortBuffer ≡ formOutcome g p a s room
-          too-short l = fails ShortBuffer (lt-leb (3 * g .rows) room l) ∙ from-room
+          pub too-short : room < outputSize (g .rows) → callRefused ShortBuffer ≡ formOutcome g p a s room
+          too-short l = fails ShortBuffer (lt-leb (outputSize (g .rows)) room l) ∙ from-room
 
-          pub all-right : 3 * g .rows ≤ room → Accepted ≡ formOutcome g p a s room
-          all-right l = passes ShortBuffer (le-leb (3 * g .rows) room l) ∙ from-room
+          pub all-right : outputSize (g .rows) ≤ room → Accepted ≡ formOutcome g p a s room
+          all-right l = passes ShortBuffer (le-leb (outputSize (g .rows)) room l) ∙ from-room
 
   -- A CALL THAT IS ACCEPTED FITS THE NORMAL FORM
   pub accepted-fits : formOutcome g p a s room ≡ Accepted → Fitting g p a s room
@@ -76,10 +81,10 @@ module _ (g : NormalForm) (p a s : List ℕ) (room : ℕ) where
       let x = both-accept (pick ((areDigits p && areDigits a) && areDigits s) Accepted (callRefused WrongForm)) FromSignals e in
       let y = both-accept (pick counted Accepted (callRefused SignalsDiffer)) FromSizes (x .1) in
       let z = both-accept (pick sized Accepted (callRefused SizeDiffers)) FromRoom (y .1) in
-      let sizes = both-on (eqb (length p) (g .rows)) (eqb (length a) (g .rows)) (test-accepts SizeDiffers _ (z .0)) in
+      let sizes = both-on (eqb (length p) (stateSize (g .rows))) (eqb (length a) (g .rows)) (test-accepts SizeDiffers _ (z .0)) in
       record {
         signals-agree = eqb-true (length s) (g .signals) (test-accepts SignalsDiffer _ (y .0));
-        pendings-agree = eqb-true (length p) (g .rows) (sizes .0);
+        state-agrees = eqb-true (length p) (stateSize (g .rows)) (sizes .0);
         activators-agree = eqb-true (length a) (g .rows) (sizes .1);
-        enough = leb-true (3 * g .rows) room (test-accepts ShortBuffer _ (z .1));
+        enough = leb-true (outputSize (g .rows)) room (test-accepts ShortBuffer _ (z .1));
       }

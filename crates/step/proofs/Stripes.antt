@@ -1,7 +1,8 @@
--- Three stripes of n digits in a buffer, of which each turn of a loop writes one digit of each. Assumes nothing.
-use Prim.Native.Nat.{ℕ, _+_, _*_, _≤_, _<_}
-use mathlib.Core.Path.{_≡_, sym, _∙_}
-use mathlib.Core.List.{List, _++_, append-assoc}
+-- Stripes of n digits behind one another in a buffer, however many they are, of which each turn of a loop writes one digit of each. Assumes
+-- nothing.
+use Prim.Native.Nat.{ℕ, _+_, _≤_, _<_}
+use mathlib.Core.Path.{_≡_, refl, sym, _∙_}
+use mathlib.Core.List.{List, [], _∷_, _++_}
 use native.Mathlib.Decide.{ℕ-discrete}
 use native.Mathlib.Omega.{arith}
 use lib.ListN.{length, getD, set, take, drop, length-set, length-drop, take-append-drop}
@@ -9,57 +10,101 @@ use lib.Seq.{getD-set-same, getD-set-other, drop-set-lt, getD-take, getD-drop, d
 use Rattle.tables.specs.Place.{tabulate}
 use Rattle.tables.proofs.Places.{tabulate-ext, tabulate-getD}
 
--- what three stores leave elsewhere
-kept : (m : List ℕ) (p q r u v w j : ℕ) → (j ≡ p → ⊥) → (j ≡ q → ⊥) → (j ≡ r → ⊥) → getD (set (set (set m p u) q v) r w) j 0 ≡ getD m j 0
-kept m p q r u v w j a b c =
-    getD-set-other (set (set m p u) q v) r j w 0 c ∙ (getD-set-other (set m p u) q j v 0 b ∙ getD-set-other m p j u 0 a)
-
 -- a part of a list by its elements, and what lies behind it
-piece : (n : ℕ) (x : ℕ → ℕ) (m : List ℕ) (a e : ℕ) → a + n ≡ e → e ≤ length m → ((i : ℕ) → i < n → getD m (a + i) 0 ≡ x i) → drop a m ≡ tabulate n x ++ drop e m
-piece n x m a e s h at =
+piece :
+    (n : ℕ) (x : ℕ → ℕ) (m : List ℕ) (a : ℕ) → a + n ≤ length m → ((i : ℕ) → i < n → getD m (a + i) 0 ≡ x i)
+    → drop a m ≡ tabulate n x ++ drop (a + n) m
+piece n x m a h at =
     let long : n ≤ length (drop a m) = simp length-drop (omega arith) in
     let whole : take n (drop a m) ≡ tabulate n x =
     sym (tabulate-getD (take n (drop a m)) n 0 (length-take-le n (drop a m) long))
     ∙ tabulate-ext n (λ i. getD (take n (drop a m)) i 0) x (λ i l. getD-take n (drop a m) i 0 l ∙ (getD-drop a m i 0 ∙ at i l))
     in
-    sym (take-append-drop n (drop a m)) ∙ rw (whole, drop-drop n a m, s)
+    sym (take-append-drop n (drop a m)) ∙ rw (whole, drop-drop n a m)
 
-module _ (n : ℕ) (x y z : ℕ → ℕ) (b : List ℕ) where
-  -- the first k digits of each stripe are written, and nothing behind the three
-  pub record StripesTo (k : ℕ) (m : List ℕ) : Type 0 where
-    pub size : length m ≡ length b
-    pub rest : drop (3 * n) m ≡ drop (3 * n) b
-    pub first : (i : ℕ) → i < k → getD m i 0 ≡ x i
-    pub second : (i : ℕ) → i < k → getD m (n + i) 0 ≡ y i
-    pub third : (i : ℕ) → i < k → getD m (2 * n + i) 0 ≡ z i
+-- a stripe is its digits by number, and the first of some stripes starts in place a
+module _ (n : ℕ) where
+  -- where the stripes end
+  abbrev pub behind : ℕ → List (ℕ → ℕ) → ℕ
+  behind a [] = a
+  behind a (x ∷ xs) = behind (a + n) xs
 
-  module _ (fits : 3 * n ≤ length b) {k : ℕ} {m : List ℕ} (inv : StripesTo k m) where
-    module _ (h : k < n) {u v w : ℕ} (eu : u ≡ x k) (ev : v ≡ y k) (ew : w ≡ z k) where
-      pub stripes-more : StripesTo (k + 1) (set (set (set m k u) (n + k) v) (2 * n + k) w)
-      stripes-more =
+  -- the stripes in front of a rest
+  abbrev pub stripesThen : List (ℕ → ℕ) → List ℕ → List ℕ
+  stripesThen [] rest = rest
+  stripesThen (x ∷ xs) rest = tabulate n x ++ stripesThen xs rest
+
+  -- the buffer when digit k of each has been stored
+  abbrev pub stored : ℕ → ℕ → List (ℕ → ℕ) → List ℕ → List ℕ
+  stored k a [] m = m
+  stored k a (x ∷ xs) m = stored k (a + n) xs (set m (a + k) (x k))
+
+  -- the first k digits of each are in the buffer
+  abbrev Begun : ℕ → ℕ → List (ℕ → ℕ) → List ℕ → Type 0
+  Begun k a [] m = Unit {0}
+  Begun k a (x ∷ xs) m = ((i : ℕ) → i < k → getD m (a + i) 0 ≡ x i) × Begun k (a + n) xs m
+
+  behind-far : (a : ℕ) (xs : List (ℕ → ℕ)) → a ≤ behind a xs
+  behind-far a [] = omega arith
+  behind-far a (x ∷ xs) = omega (arith, behind-far (a + n) xs)
+
+  -- a store in front of the stripes
+  begun-kept : (k a : ℕ) (xs : List (ℕ → ℕ)) (m : List ℕ) (j v : ℕ) → j < a → Begun k a xs m → Begun k a xs (set m j v)
+  begun-kept k a [] m j v h b = tt
+  begun-kept k a (x ∷ xs) m j v h b =
+      (λ i l. getD-set-other m j (a + i) v 0 (λ e. omega arith) ∙ b .0 i l, begun-kept k (a + n) xs m j v (omega arith) (b .1))
+
+  -- the stores of a turn: the size, what lies before and behind the stripes, and the stripes
+  stored-size : (k a : ℕ) (xs : List (ℕ → ℕ)) (m : List ℕ) → length (stored k a xs m) ≡ length m
+  stored-size k a [] m = refl
+  stored-size k a (x ∷ xs) m = stored-size k (a + n) xs (set m (a + k) (x k)) ∙ length-set m (a + k) (x k)
+
+  stored-before : (k a : ℕ) (xs : List (ℕ → ℕ)) (m : List ℕ) (j : ℕ) → j < a → getD (stored k a xs m) j 0 ≡ getD m j 0
+  stored-before k a [] m j h = refl
+  stored-before k a (x ∷ xs) m j h =
+      stored-before k (a + n) xs (set m (a + k) (x k)) j (omega arith) ∙ getD-set-other m (a + k) j (x k) 0 (λ e. omega arith)
+
+  module _ {k : ℕ} (h : k < n) where
+    stored-behind : (a : ℕ) (xs : List (ℕ → ℕ)) (m : List ℕ) → drop (behind a xs) (stored k a xs m) ≡ drop (behind a xs) m
+    stored-behind a [] m = refl
+    stored-behind a (x ∷ xs) m =
+        stored-behind (a + n) xs (set m (a + k) (x k)) ∙ drop-set-lt (behind (a + n) xs) m (a + k) (x k) (omega (arith, behind-far (a + n) xs))
+
+    begun-more : (a : ℕ) (xs : List (ℕ → ℕ)) (m : List ℕ) → behind a xs ≤ length m → Begun k a xs m → Begun (k + 1) a xs (stored k a xs m)
+    begun-more a [] m fits b = tt
+    begun-more a (x ∷ xs) m fits b =
+        let s : List ℕ = set m (a + k) (x k) in
+        let size : length s ≡ length m = length-set m (a + k) (x k) in (
+          λ i l. stored-before k (a + n) xs s (a + i) (omega arith) ∙ at i l (ℕ-discrete i k),
+          begun-more (a + n) xs s (omega (arith, size)) (begun-kept k (a + n) xs m (a + k) (x k) (omega arith) (b .1)),
+        )
+      where
+        at : (i : ℕ) → i < k + 1 → Dec (i ≡ k) → getD (set m (a + k) (x k)) (a + i) 0 ≡ x i
+        at i l (yes e) = rw e (getD-set-same m (a + k) (x k) 0 (omega (arith, behind-far (a + n) xs)))
+        at i l (no e) = getD-set-other m (a + k) (a + i) (x k) 0 (λ q. e (omega arith)) ∙ b .0 i (omega arith)
+
+  begun-all :
+      (k a : ℕ) (xs : List (ℕ → ℕ)) (m : List ℕ) → n ≤ k → behind a xs ≤ length m → Begun k a xs m
+      → drop a m ≡ stripesThen xs (drop (behind a xs) m)
+  begun-all k a [] m h fits b = refl
+  begun-all k a (x ∷ xs) m h fits b =
+      piece n x m a (omega (arith, behind-far (a + n) xs)) (λ i l. b .0 i (omega arith)) ∙ rw (begun-all k (a + n) xs m h fits (b .1))
+
+  -- ---- in a buffer whose bytes were b: the first k digits of each stripe are written, and nothing behind the stripes
+  module _ (xs : List (ℕ → ℕ)) (b : List ℕ) where
+    pub record StripesTo (k : ℕ) (m : List ℕ) : Type 0 where
+      pub size : length m ≡ length b
+      pub rest : drop (behind 0 xs) m ≡ drop (behind 0 xs) b
+      pub begun : Begun k 0 xs m
+
+    module _ (fits : behind 0 xs ≤ length b) {k : ℕ} {m : List ℕ} (inv : StripesTo k m) where
+      pub stripes-more : k < n → StripesTo (k + 1) (stored k 0 xs m)
+      stripes-more h =
           record {
-            size = simp length-set (inv .size);
-            rest = drop-set-lt (3 * n) (set (set m k u) (n + k) v) (2 * n + k) w (omega arith) ∙ (drop-set-lt (3 * n) (set m k u) (n + k) v (omega arith) ∙ (drop-set-lt (3 * n) m k u (omega arith) ∙ inv .rest));
-            first = λ i l. at-first i l (ℕ-discrete i k);
-            second = λ i l. at-second i l (ℕ-discrete i k);
-            third = λ i l. at-third i l (ℕ-discrete i k);
+            size = stored-size k 0 xs m ∙ inv .size;
+            rest = stored-behind h 0 xs m ∙ inv .rest;
+            begun = begun-more h 0 xs m (omega (arith, inv .size)) (inv .begun);
           }
-        where
-          at-first : (i : ℕ) → i < k + 1 → Dec (i ≡ k) → getD (set (set (set m k u) (n + k) v) (2 * n + k) w) i 0 ≡ x i
-          at-first i l (yes e) = rw e (getD-set-other (set (set m k u) (n + k) v) (2 * n + k) k w 0 (λ q. omega arith) ∙ (getD-set-other (set m k u) (n + k) k v 0 (λ q. omega arith) ∙ (getD-set-same m k u 0 (omega (arith, inv .size)) ∙ eu)))
-          at-first i l (no e) = kept m k (n + k) (2 * n + k) u v w i e (λ q. omega arith) (λ q. omega arith) ∙ inv .first i (omega arith)
 
-          at-second : (i : ℕ) → i < k + 1 → Dec (i ≡ k) → getD (set (set (set m k u) (n + k) v) (2 * n + k) w) (n + i) 0 ≡ y i
-          at-second i l (yes e) = rw e (getD-set-other (set (set m k u) (n + k) v) (2 * n + k) (n + k) w 0 (λ q. omega arith) ∙ (getD-set-same (set m k u) (n + k) v 0 (rw length-set (omega (arith, inv .size))) ∙ ev))
-          at-second i l (no e) = kept m k (n + k) (2 * n + k) u v w (n + i) (λ q. omega arith) (λ q. e (omega arith)) (λ q. omega arith) ∙ inv .second i (omega arith)
-
-          at-third : (i : ℕ) → i < k + 1 → Dec (i ≡ k) → getD (set (set (set m k u) (n + k) v) (2 * n + k) w) (2 * n + i) 0 ≡ z i
-          at-third i l (yes e) = rw e (getD-set-same (set (set m k u) (n + k) v) (2 * n + k) w 0 (rw (length-set, length-set) (omega (arith, inv .size))) ∙ ew)
-          at-third i l (no e) = kept m k (n + k) (2 * n + k) u v w (2 * n + i) (λ q. omega arith) (λ q. omega arith) (λ q. e (omega arith)) ∙ inv .third i (omega arith)
-
-    pub stripes-end : n ≤ k → m ≡ (tabulate n x ++ (tabulate n y ++ tabulate n z)) ++ drop (3 * n) b
-    stripes-end h =
-        let one : m ≡ tabulate n x ++ drop n m = piece n x m 0 n (omega arith) (omega (arith, inv .size)) (λ i l. let e : 0 + i ≡ i = omega arith in rw e (inv .first i (omega arith))) in
-        let two : drop n m ≡ tabulate n y ++ drop (2 * n) m = piece n y m n (2 * n) (omega arith) (omega (arith, inv .size)) (λ i l. inv .second i (omega arith)) in
-        let three : drop (2 * n) m ≡ tabulate n z ++ drop (3 * n) m = piece n z m (2 * n) (3 * n) (omega arith) (omega (arith, inv .size)) (λ i l. inv .third i (omega arith)) in
-        one ∙ rw (two, three, inv .rest, append-assoc, append-assoc)
+      pub stripes-end : n ≤ k → m ≡ stripesThen xs (drop (behind 0 xs) b)
+      stripes-end h = begun-all k 0 xs m h (omega (arith, inv .size)) (inv .begun) ∙ rw (inv .rest)

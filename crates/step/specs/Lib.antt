@@ -1,2 +1,2 @@
-pub mod Fitting
 pub mod Step
+pub mod Fitting

@@ -1,7 +1,7 @@
 -- DEMAND 3, FIRST SENTENCE: the endless take of the answered steps satisfies the rule. Assumes nothing.
 use Prim.Native.Nat.{ℕ, zero, suc, _+_, _≤_, _<_}
 use mathlib.Core.Path.{_≡_, refl, sym, ap, subst⁻¹, _∙_}
-use mathlib.Core.Bool.{true, false}
+use mathlib.Core.Bool.{Bool, true, false}
 use native.Mathlib.Omega.{arith}
 use lib.ListN.{getD}
 use Rattle.tables.specs.declared.row.Formula.{Formula}
@@ -12,19 +12,35 @@ use Rattle.meaning.specs.Trace.{InfiniteTrace}
 use Rattle.meaning.specs.Satisfaction.{Table, tableOf, Satisfies, SatisfiesNormal}
 use Rattle.meaning.proofs.Readings.{On, on-and-off, not-not-on, classical-full}
 use Rattle.meaning.proofs.Rows.{each-signal-map}
-use Rattle.meaning.proofs.Locality.{SameSignals, truth-local}
+use Rattle.meaning.proofs.Locality.{SameSignals, truth-everywhere}
 use Rattle.normal_form.specs.declared.sign.Sign.the-variants.{Plain}
 use Rattle.normal_form.specs.Form.{InNormalForm}
 use Rattle.normal_form.specs.Numbering.{normalForm}
 use Rattle.normal_form.proofs.Ranges.{form-normal}
 use Rattle.normal_form.proofs.FormTables.{form-ordered, form-positive, form-signals}
 use Rattle.normal_form.proofs.Demand.{satisfied-alike}
+use Rattle.monitors.specs.State.{State, stateAt, freshState}
 use Rattle.monitors.specs.Along.{Activators}
-use Rattle.monitors.proofs.Soundness.{outputFrom, HandedOn, Unfailing, active-row-true}
-use Rattle.step.specs.Step.{digitAt, rowsIn}
+use Rattle.monitors.proofs.States.{SameState, RowTo}
+use Rattle.monitors.proofs.Soundness.{outputIn, HandedOn, Unfailing, active-row-true}
+use Rattle.step.specs.Step.{digitAt, stateLeft, rowsIn}
 use Rattle.step_calls.specs.Calls.{Call, given, InOrder, kept, handed, answered, left, TakeOf, StepsPass}
 use Rattle.step_calls.proofs.Order.{reached, later, first-unique, at-first, at-next, order-unique, listed, listed-in-order}
 use Rattle.step_calls.proofs.Steps.{digit-one, digit-not-one, answered-range, left-failed, left-accept, handed-on, kept-back, handed-fresh}
+
+-- what is so of each row; number 0 is no row
+abbrev ofRow : (ℕ → Bool) → ℕ → Bool
+ofRow x zero = false
+ofRow x (suc k) = x (suc k)
+
+abbrev ofRows : State Bool → State Bool
+ofRows s = record { pending = ofRow (s .pending) }
+
+of-row :
+    (rows : ℕ) (x y : ℕ → Bool) → y 0 ≡ false → ((k : ℕ) → k < rows → x (suc k) ≡ y (suc k))
+    → (k : ℕ) → k < suc rows → ofRow x k ≡ y k
+of-row rows x y none same zero h = sym none
+of-row rows x y none same (suc k) h = same k (omega arith)
 
 module _ (f : Formula) (calls : ℕ → Call) where
   abbrev g : NormalForm
@@ -41,43 +57,50 @@ module _ (f : Formula) (calls : ℕ → Call) where
     abbrev active : Activators
     active c k = digitAt (calls (at c) .activators) k
 
-    -- number 0 is no row
-    abbrev pending : Activators
-    pending c zero = false
-    pending c (suc k) = digitAt (handed f calls (at c)) (suc k)
+    -- the state that the call of each cycle gets, and the one that it leaves
+    abbrev stateOf : ℕ → State Bool
+    stateOf c = stateAt (g .rows) (digitAt (handed f calls (at c)))
+
+    abbrev leftOf : ℕ → State Bool
+    leftOf c = stateLeft g (handed f calls (at c)) (calls (at c) .activators) (calls (at c) .signals)
+
+    abbrev states : ℕ → State Bool
+    states c = ofRows (stateOf c)
 
     range : InRange f
     range = answered-range f calls (at 0) (order .each 0)
 
-    handed-pendings : HandedOn table (suc (g .rows)) signals active pending
-    handed-pendings = record { fresh = fresh; next = next }
-      where
-        fresh : (k : ℕ) → k < suc (g .rows) → pending 0 k ≡ false
-        fresh zero h = refl
-        fresh (suc k) h =
-            let zeros : ℕ = calls (at 0) .zeros in
-            ap (λ x. digitAt (given x zeros) (suc k)) (at-first order (kept f calls) (kept-back f calls)) ∙ handed-fresh f calls zeros k
+    fresh-first : SameState (RowTo (g .rows)) (stateOf 0) freshState
+    unfolding kept
+    fresh-first = handed-fresh f calls (at 0) (order .each 0) (at-first order (kept f calls) (kept-back f calls))
 
-        next : (k : ℕ) → k < suc (g .rows) → (c : ℕ) → pending (suc c) k ≡ outputFrom table signals active pending c k .pending
-        next zero h c = refl
-        next (suc k) h c =
-            let zeros : ℕ = calls (at (suc c)) .zeros in
-            ap (λ x. digitAt (given x zeros) (suc k)) (at-next order (kept f calls) (kept-back f calls) c) ∙ handed-on f calls (at c) (order .each c) k (omega arith) zeros
+    left-next : (c : ℕ) → SameState (RowTo (g .rows)) (stateOf (suc c)) (leftOf c)
+    left-next c =
+        let rows : ℕ = calls (at (suc c)) .rows in
+        subst⁻¹ (λ x. SameState (RowTo (g .rows)) (stateAt (g .rows) (digitAt (given x rows))) (leftOf c))
+        (at-next order (kept f calls) (kept-back f calls) c) (handed-on f calls (at c) (order .each c) rows)
+
+    states-handed-on : HandedOn table (suc (g .rows)) signals active states
+    states-handed-on =
+        record {
+          fresh = record { same-pending = of-row (g .rows) _ _ refl (λ k h. fresh-first .same-pending (suc k) (omega arith, omega arith)) };
+          next = λ c. record { same-pending = of-row (g .rows) _ _ refl (λ k h. left-next c .same-pending (suc k) (omega arith, omega arith)) };
+        }
 
     module _ (passes : StepsPass f calls classical) where
-      none-fail : Unfailing table (suc (g .rows)) signals active pending
+      none-fail : Unfailing table (suc (g .rows)) signals active states
       none-fail = record { none-fails = clean; none-starves = returns }
         where
-          clean : (k : ℕ) → k < suc (g .rows) → (c : ℕ) → outputFrom table signals active pending c k .failed ≡ false
+          clean : (k : ℕ) → k < suc (g .rows) → (c : ℕ) → outputIn table signals active states c k .failed ≡ false
           clean zero h c = refl
           clean (suc k) h c = digit-not-one _ (λ e. passes .none-fails (at c) k (order .each c) (omega arith) (left-failed f calls (at c) (order .each c) k (omega arith) ∙ e))
 
-          accepts : (k c j : ℕ) → k < g .rows → getD (left f calls j) (rowsIn f + k) 0 ≡ 49 → at c ≡ j → outputFrom table signals active pending c (suc k) .accept ≡ true
+          accepts : (k c j : ℕ) → k < g .rows → getD (left f calls j) (rowsIn f + k) 0 ≡ 49 → at c ≡ j → outputIn table signals active states c (suc k) .accept ≡ true
           accepts k c j h e q =
               let b : answered f calls (at c) ≡ true = order .each c in
               digit-one _ (sym (left-accept f calls (at c) b k h) ∙ (ap (λ m. getD (left f calls m) (rowsIn f + k) 0) q ∙ e))
 
-          returns : (k : ℕ) → k < suc (g .rows) → (c : ℕ) → ¬ ((d : ℕ) → c ≤ d → outputFrom table signals active pending d k .accept ≡ false)
+          returns : (k : ℕ) → k < suc (g .rows) → (c : ℕ) → ¬ ((d : ℕ) → c ≤ d → outputIn table signals active states d k .accept ≡ false)
           returns zero h c none = on-and-off refl (none c (omega arith))
           returns (suc k) h c none =
               passes .accepts-return k (omega arith) (at c)
@@ -93,7 +116,7 @@ module _ (f : Formula) (calls : ℕ → Call) where
       answered-satisfy : SatisfiesNormal classical signals g
       answered-satisfy =
           let ok : InNormalForm g = form-normal f Plain range in
-          active-row-true table (suc (g .rows)) signals active pending (form-ordered g ok) (form-positive g ok) handed-pendings none-fail classical classical-full (g .rows) (omega arith) 0 root
+          active-row-true table (suc (g .rows)) signals active states (form-ordered g ok) (form-positive g ok) states-handed-on none-fail classical classical-full (g .rows) (omega arith) 0 root
 
   -- THE CLAIM: where the root is active in the first answered call, no answered call writes a failed of 1 and each row's accept is 1
   -- in endlessly many of them, the endless take of the answered calls satisfies the rule
@@ -103,10 +126,10 @@ module _ (f : Formula) (calls : ℕ → Call) where
       let at : ℕ → ℕ = take .at in
       let fine : InRange f = range at (take .in-order) in
       let ok : InNormalForm g = form-normal f Plain fine in
-      let same : (i : ℕ) → 0 ≤ i → SameSignals (suc (g .rows)) table w (signals at (take .in-order)) i =
-      λ i l k h. each-signal-map _ _ (table k) (λ s x. take .cycles i s (x .0) (x .1)) (form-signals g ok k h) in
+      let same : (i : ℕ) → SameSignals (suc (g .rows)) table w (signals at (take .in-order)) i =
+      λ i k h. each-signal-map _ _ (table k) (λ s x. take .cycles i s (x .0) (x .1)) (form-signals g ok k h) in
       satisfied-alike f fine w .0
-      (truth-local classical w (signals at (take .in-order)) table (suc (g .rows)) (form-ordered g ok) 0 same (g .rows) (omega arith) 0 (omega arith) .1
+      (truth-everywhere classical w (signals at (take .in-order)) table (suc (g .rows)) (form-ordered g ok) same (g .rows) (omega arith) 0 .1
       (answered-satisfy at (take .in-order) passes))
 
   -- there is one such take, as far as its signals go

@@ -1,11 +1,11 @@
--- What an answered call of the step service leaves and hands on, byte by byte. Assumes nothing.
+-- What an answered call of the step service leaves, byte by byte, and the state that it hands on. Assumes nothing.
 use Prim.Native.Nat.{ℕ, zero, suc, _+_, _*_, _-_, _<_}
-use mathlib.Core.Path.{_≡_, refl, sym, ap, _∙_}
+use mathlib.Core.Path.{_≡_, refl, sym, ap, subst⁻¹, fun-ext, _∙_}
 use mathlib.Core.Bool.{Bool, true, false}
-use mathlib.Core.List.{List, _++_, append-assoc}
+use mathlib.Core.List.{List, [], _∷_, _++_, append-assoc}
 use native.Mathlib.Omega.{arith}
 use lib.Dec.{eqb}
-use lib.ListN.{length, getD, drop, length-append, List·getD-append}
+use lib.ListN.{length, getD, drop, length-append, length-map, List·getD-append}
 use lib.Seq.{getD-append-add, take-at, drop-at}
 use Rattle.tables.specs.Place.{tabulate}
 use Rattle.tables.specs.Refusal.{onOutcome}
@@ -18,6 +18,7 @@ use Rattle.tables.specs.declared.row.Formula.{Formula}
 use Rattle.tables.specs.declared.row.NormalForm.{NormalForm}
 use Rattle.text.specs.Result.{outcomeOf}
 use Rattle.text.specs.Search.{part}
+use Rattle.text.specs.Written.{digitsText}
 use Rattle.tables.proofs.Choices.{clash}
 use Rattle.rule_file.specs.Rule.{parseRule}
 use Rattle.rule_file.specs.Valid.{InRange}
@@ -25,11 +26,13 @@ use Rattle.rule_file.specs.Written.{writtenRule}
 use Rattle.rule_file.proofs.Rules.{checked}
 use Rattle.normal_form.specs.declared.sign.Sign.the-variants.{Plain}
 use Rattle.normal_form.specs.Numbering.{normalForm}
+use Rattle.monitors.specs.State.{State, inOrder, stateSize, stateAt, freshState}
+use Rattle.monitors.proofs.States.{SameState, RowTo, state-size, state-read}
 use Rattle.writing.specs.declared.answer.Bytes.{Bytes}
 use Rattle.writing.specs.declared.answer.Bytes.the-variants.{Count, Refused as BytesRefused}
 use Rattle.step.specs.Fitting.{Fitting}
-use Rattle.step.specs.Step.{digitAt, digitOf, rowOutput, formOutcome, formOutput, rowsIn, stepOutcome, stepAnswer}
-use Rattle.step.proofs.Outputs.{failedDigit, acceptDigit, pendingDigit}
+use Rattle.step.specs.Step.{digitAt, digitOf, outputSize, stateDigits, stateLeft, rowOutput, formOutcome, formOutput, rowsIn, stepOutcome, stepAnswer}
+use Rattle.step.proofs.Outputs.{failedDigit, acceptDigit}
 use Rattle.step.proofs.Checks.{accepted-fits}
 use Rattle.step.proofs.Answers.{answered-answer, answered-left}
 use Rattle.step_calls.specs.Calls.{Call, Kept.fresh, Kept.wrote, given, onAnswer, kept, handed, answered, left}
@@ -47,7 +50,21 @@ pub digit-not-one : (b : Bool) → ¬ (digitOf b ≡ 49) → b ≡ false
 digit-not-one true n = absurd (n refl)
 digit-not-one false n = refl
 
--- ---- the three stripes of the output
+-- digits say what they were written for, and 0 where there is none
+digits-say : (bs : List Bool) (i : ℕ) → eqb (getD (digitsText bs) i 0) 49 ≡ getD bs i false
+digits-say [] i = refl
+digits-say (b ∷ bs) zero = digit-says b
+digits-say (b ∷ bs) (suc i) = digits-say bs i
+
+-- A STATE IS READ FROM ITS DIGITS AGAIN
+pub state-digits : (rows : ℕ) (s : State Bool) → SameState (RowTo rows) (stateAt rows (digitAt (stateDigits rows s))) s
+state-digits rows s =
+    subst⁻¹ (λ x. SameState (RowTo rows) (stateAt rows x) s) (fun-ext λ j. digits-say (inOrder rows s) (j - 1)) (state-read rows s false)
+
+pub state-digits-size : (rows : ℕ) (s : State Bool) → length (stateDigits rows s) ≡ stateSize rows
+state-digits-size rows s = length-map (inOrder rows s) digitOf ∙ state-size rows s
+
+-- ---- the parts of the output
 module _ (g : NormalForm) (p a s rest : List ℕ) where
   abbrev n : ℕ
   n = g .rows
@@ -58,12 +75,12 @@ module _ (g : NormalForm) (p a s rest : List ℕ) where
   accept : List ℕ
   accept = tabulate n (acceptDigit g p a s)
 
-  pending : List ℕ
-  pending = tabulate n (pendingDigit g p a s)
+  state : List ℕ
+  state = stateDigits n (stateLeft g p a s)
 
-  stripes : formOutput g p a s ++ rest ≡ failed ++ (accept ++ (pending ++ rest))
-  unfolding formOutput failed accept pending
-  stripes = rw (append-assoc, append-assoc)
+  parts : formOutput g p a s ++ rest ≡ failed ++ (accept ++ (state ++ rest))
+  unfolding formOutput failed accept state
+  parts = rw (append-assoc, append-assoc)
 
   failed-size : length failed ≡ n
   unfolding failed
@@ -73,31 +90,27 @@ module _ (g : NormalForm) (p a s rest : List ℕ) where
   unfolding accept
   accept-size = length-tabulate n 0 (acceptDigit g p a s)
 
-  pending-size : length pending ≡ n
-  unfolding pending
-  pending-size = length-tabulate n 0 (pendingDigit g p a s)
-
   module _ (k : ℕ) (h : k < n) where
     pub failed-byte : getD (formOutput g p a s ++ rest) k 0 ≡ failedDigit g p a s k
     unfolding failed
     failed-byte =
-        ap (λ l. getD l k 0) stripes ∙ (List·getD-append failed (accept ++ (pending ++ rest)) 0 k (omega (arith, failed-size)) ∙ getD-tabulate n (failedDigit g p a s) k 0 h)
+        ap (λ l. getD l k 0) parts ∙ (List·getD-append failed (accept ++ (state ++ rest)) 0 k (omega (arith, failed-size)) ∙ getD-tabulate n (failedDigit g p a s) k 0 h)
 
     pub accept-byte : getD (formOutput g p a s ++ rest) (n + k) 0 ≡ acceptDigit g p a s k
     unfolding accept
     accept-byte =
-        ap (λ l. getD l (n + k) 0) stripes
-        ∙ (ap (λ m. getD (failed ++ (accept ++ (pending ++ rest))) (m + k) 0) (sym failed-size)
-        ∙ (getD-append-add failed (accept ++ (pending ++ rest)) k 0
-        ∙ (List·getD-append accept (pending ++ rest) 0 k (omega (arith, accept-size)) ∙ getD-tabulate n (acceptDigit g p a s) k 0 h)))
+        ap (λ l. getD l (n + k) 0) parts
+        ∙ (ap (λ m. getD (failed ++ (accept ++ (state ++ rest))) (m + k) 0) (sym failed-size)
+        ∙ (getD-append-add failed (accept ++ (state ++ rest)) k 0
+        ∙ (List·getD-append accept (state ++ rest) 0 k (omega (arith, accept-size)) ∙ getD-tabulate n (acceptDigit g p a s) k 0 h)))
 
-  pub pending-part : part (2 * n) (3 * n) (formOutput g p a s ++ rest) ≡ tabulate n (pendingDigit g p a s)
-  unfolding pending
-  pending-part =
-      let e : 3 * n - 2 * n ≡ n = omega arith in
+  pub state-part : part (2 * n) (outputSize n) (formOutput g p a s ++ rest) ≡ stateDigits n (stateLeft g p a s)
+  unfolding state
+  state-part =
+      let e : outputSize n - 2 * n ≡ stateSize n = omega arith in
       let l : length (failed ++ accept) ≡ 2 * n = simp length-append (omega (arith, failed-size, accept-size)) in
-      let w : formOutput g p a s ++ rest ≡ (failed ++ accept) ++ (pending ++ rest) = stripes ∙ sym (append-assoc failed accept (pending ++ rest)) in
-      rw (e, w, drop-at (failed ++ accept) (pending ++ rest) (2 * n) l) (take-at pending rest n pending-size)
+      let w : formOutput g p a s ++ rest ≡ (failed ++ accept) ++ (state ++ rest) = parts ∙ sym (append-assoc failed accept (state ++ rest)) in
+      rw (e, w, drop-at (failed ++ accept) (state ++ rest) (2 * n) l) (take-at state rest (stateSize n) (state-digits-size n (stateLeft g p a s)))
 
 -- ---- a call
 
@@ -120,7 +133,7 @@ module _ (f : Formula) (calls : ℕ → Call) (i : ℕ) where
   accepts : answered f calls i ≡ true → outcome ≡ Accepted
   accepts e = by outcome e
     where
-      by : (o : Outcome) → onAnswer (onOutcome o BytesRefused (Count (3 * g .rows))) true false ≡ true → o ≡ Accepted
+      by : (o : Outcome) → onAnswer (onOutcome o BytesRefused (Count (outputSize (g .rows)))) true false ≡ true → o ≡ Accepted
       by Accepted e = refl
       by (Refused r) e = clash (cc)
 
@@ -134,29 +147,36 @@ module _ (f : Formula) (calls : ℕ → Call) (i : ℕ) where
 
   module _ (e : answered f calls i ≡ true) where
     -- WHAT AN ANSWERED CALL LEAVES, AND WHAT IS KEPT OF IT
-    pub left-is : left f calls i ≡ formOutput g p a s ++ drop (3 * g .rows) (calls i .buffer)
+    pub left-is : left f calls i ≡ formOutput g p a s ++ drop (outputSize (g .rows)) (calls i .buffer)
     left-is = answered-left f p a s (calls i .buffer) (accepts e)
 
-    pub kept-is : kept f calls (suc i) ≡ wrote (tabulate (g .rows) (pendingDigit g p a s))
+    pub kept-is : kept f calls (suc i) ≡ wrote (stateDigits (rowsIn f) (stateLeft g p a s))
     unfolding kept
     kept-is =
         rw (answered-answer f p a s (calls i .buffer) (accepts e))
-        (ap wrote (ap (part (2 * g .rows) (3 * g .rows)) left-is ∙ pending-part g p a s (drop (3 * g .rows) (calls i .buffer))))
+        (ap wrote (ap (part (2 * g .rows) (outputSize (g .rows))) left-is ∙ state-part g p a s (drop (outputSize (g .rows)) (calls i .buffer))))
+
+    -- the state that the next call gets, for whatever number of rows it would have got a fresh one before
+    pub handed-on : (rows : ℕ) → SameState (RowTo (rowsIn f)) (stateAt (rowsIn f) (digitAt (given (kept f calls (suc i)) rows))) (stateLeft g p a s)
+    handed-on rows =
+        subst⁻¹ (λ x. SameState (RowTo (rowsIn f)) (stateAt (rowsIn f) (digitAt (given x rows))) (stateLeft g p a s)) kept-is
+        (state-digits (rowsIn f) (stateLeft g p a s))
+
+    -- and a fresh one has the right number of rows where it is answered
+    pub handed-fresh : kept f calls i ≡ fresh → SameState (RowTo (rowsIn f)) (stateAt (rowsIn f) (digitAt p)) freshState
+    handed-fresh start =
+        let handed-is : p ≡ stateDigits (calls i .rows) freshState = ap (λ x. given x (calls i .rows)) start in
+        let size : length p ≡ stateSize (calls i .rows) = ap length handed-is ∙ state-digits-size (calls i .rows) freshState in
+        let rows : calls i .rows ≡ rowsIn f = omega (arith, size, answered-fits e .state-agrees) in
+        subst⁻¹ (λ x. SameState (RowTo (rowsIn f)) (stateAt (rowsIn f) (digitAt x)) freshState)
+        (handed-is ∙ ap (λ r. stateDigits r freshState) rows) (state-digits (rowsIn f) freshState)
 
     module _ (k : ℕ) (h : k < rowsIn f) where
       pub left-failed : getD (left f calls i) k 0 ≡ digitOf (rowOutput g p a s (suc k) .failed)
-      left-failed = ap (λ l. getD l k 0) left-is ∙ failed-byte g p a s (drop (3 * g .rows) (calls i .buffer)) k h
+      left-failed = ap (λ l. getD l k 0) left-is ∙ failed-byte g p a s (drop (outputSize (g .rows)) (calls i .buffer)) k h
 
       pub left-accept : getD (left f calls i) (rowsIn f + k) 0 ≡ digitOf (rowOutput g p a s (suc k) .accept)
-      left-accept = ap (λ l. getD l (rowsIn f + k) 0) left-is ∙ accept-byte g p a s (drop (3 * g .rows) (calls i .buffer)) k h
-
-      -- the pendings that the next call gets, whatever number of zeros it would have got before
-      pub handed-on : (zeros : ℕ) → digitAt (given (kept f calls (suc i)) zeros) (suc k) ≡ rowOutput g p a s (suc k) .pending
-      handed-on zeros =
-          let z : suc k - 1 ≡ k = omega arith in
-          ap (λ x. digitAt (given x zeros) (suc k)) kept-is
-          ∙ (ap (λ d. eqb d 49) (ap (λ m. getD (tabulate (g .rows) (pendingDigit g p a s)) m 0) z ∙ getD-tabulate (g .rows) (pendingDigit g p a s) k 0 h)
-          ∙ digit-says (rowOutput g p a s (suc k) .pending))
+      left-accept = ap (λ l. getD l (rowsIn f + k) 0) left-is ∙ accept-byte g p a s (drop (outputSize (g .rows)) (calls i .buffer)) k h
 
   -- "A refused call changes none of them"
   pub kept-back : answered f calls i ≡ false → kept f calls (suc i) ≡ kept f calls i
@@ -166,13 +186,3 @@ module _ (f : Formula) (calls : ℕ → Call) (i : ℕ) where
       by : (b : Bytes) → onAnswer b true false ≡ false → (r : Refusal) × (b ≡ BytesRefused r)
       by (Count m) e = clash (cc)
       by (BytesRefused r) e = (r, refl)
-
--- "calls get pendings that are all 0", however many
-pub handed-fresh : (f : Formula) (calls : ℕ → Call) (zeros k : ℕ) → digitAt (given (kept f calls 0) zeros) (suc k) ≡ false
-unfolding kept
-handed-fresh f calls zeros k = let z : suc k - 1 ≡ k = omega arith in rw z (by zeros k)
-  where
-    by : (n k : ℕ) → eqb (getD (given fresh n) k 0) 49 ≡ false
-    by zero k = refl
-    by (suc n) zero = refl
-    by (suc n) (suc k) = by n k

@@ -40,7 +40,7 @@ use Rattle.normal_form.specs.Reach.{markedDown, reach}
 use Rattle.normal_form.specs.Numbering.{listing, normalListing, normalForm}
 use Rattle.writing.specs.declared.answer.Bytes.{Bytes}
 use Rattle.writing.specs.declared.answer.Bytes.the-variants.{Count, Refused}
-use Rattle.step.specs.Step.{digitAt, formOutcome, formOutput, rowsIn, stepAnswer}
+use Rattle.step.specs.Step.{digitAt, formOutcome, formOutput, outputSize, rowsIn, stepAnswer}
 use Rattle.step_calls.specs.Calls.{Call, Kept, Kept.fresh, Kept.wrote, given, onAnswer, kept, handed, answered, left, TakeOf, StepsPass}
 use Rattle.step_calls.proofs.Demand.{steps-demand}
 
@@ -48,12 +48,12 @@ use Rattle.step_calls.proofs.Demand.{steps-demand}
 abbrev pub ruleA : Formula
 ruleA = formulaOf 2 6 (Signal Sig 1 ∷ Unary Not 1 ∷ Signal Sig 2 ∷ Unary Ever 3 ∷ Binary Or 2 4 ∷ Unary Always 5 ∷ [])
 
--- "sheet for A on 10 01, loop 0: z1 to z5 are 01 01 11 11 11". The first of each three calls is refused: with 9 for its 4 zeros while no
--- call has been answered, then with 10 for its buffer of 14 bytes
+-- "sheet for A on 10 01, loop 0: z1 to z5 are 01 01 11 11 11". The first of each three calls is refused: with 9 for its fresh
+-- state of 4 rows while no call has been answered, then with 10 for its buffer of 14 bytes
 abbrev pub calls : ℕ → Call
-calls zero = record { activators = bytes "00111"; signals = bytes "10"; buffer = replicate 14 0; zeros = 4 }
-calls (suc zero) = record { activators = bytes "00111"; signals = bytes "10"; buffer = replicate 15 0; zeros = 5 }
-calls (suc (suc zero)) = record { activators = bytes "11111"; signals = bytes "01"; buffer = replicate 15 0; zeros = 5 }
+calls zero = record { activators = bytes "00111"; signals = bytes "10"; buffer = replicate 14 0; rows = 4 }
+calls (suc zero) = record { activators = bytes "00111"; signals = bytes "10"; buffer = replicate 15 0; rows = 5 }
+calls (suc (suc zero)) = record { activators = bytes "11111"; signals = bytes "01"; buffer = replicate 15 0; rows = 5 }
 calls (suc (suc (suc i))) = calls i
 
 -- 10 01 10 01, and so on
@@ -95,20 +95,20 @@ leaves (suc (suc (suc i))) = leaves i
 
 -- what a call answers and leaves, and what is kept then, where the rule's own check and its normal form are these
 module _ (own : Outcome) (g : NormalForm) (i : ℕ) (k : Kept) where
-  abbrev pendings : List ℕ
-  pendings = given k (calls i .zeros)
+  abbrev state : List ℕ
+  state = given k (calls i .rows)
 
   abbrev outcome : Outcome
-  outcome = andThen own (formOutcome g pendings (calls i .activators) (calls i .signals) (length (calls i .buffer)))
+  outcome = andThen own (formOutcome g state (calls i .activators) (calls i .signals) (length (calls i .buffer)))
 
   abbrev answerTo : Bytes
-  answerTo = onOutcome outcome Refused (Count (3 * g .rows))
+  answerTo = onOutcome outcome Refused (Count (outputSize (g .rows)))
 
   abbrev leftBy : List ℕ
-  leftBy = onOutcome outcome (λ r. calls i .buffer) (formOutput g pendings (calls i .activators) (calls i .signals) ++ drop (3 * g .rows) (calls i .buffer))
+  leftBy = onOutcome outcome (λ r. calls i .buffer) (formOutput g state (calls i .activators) (calls i .signals) ++ drop (outputSize (g .rows)) (calls i .buffer))
 
   abbrev keptAfter : Kept
-  keptAfter = onAnswer answerTo (wrote (part (2 * g .rows) (3 * g .rows) leftBy)) k
+  keptAfter = onAnswer answerTo (wrote (part (2 * g .rows) (outputSize (g .rows)) leftBy)) k
 
 abbrev Done : Outcome → NormalForm → ℕ → Bool → Type 0
 Done own g i later =

@@ -3,22 +3,23 @@ use Prim.Native.Nat.{ℕ, zero, suc, _+_, _*_, _≤_, _<_}
 use mathlib.Core.Path.{_≡_}
 use mathlib.Core.Bool.{Bool, true, false}
 use mathlib.Core.List.{List}
-use lib.ListN.{getD, replicate}
+use lib.ListN.{getD}
 use Rattle.tables.specs.declared.row.Formula.{Formula}
 use Rattle.text.specs.Search.{part}
 use Rattle.meaning.specs.Reading.{Reading, Some}
 use Rattle.meaning.specs.Trace.{InfiniteTrace}
 use Rattle.writing.specs.declared.answer.Bytes.{Bytes}
 use Rattle.writing.specs.declared.answer.Bytes.the-variants.{Count, Refused}
-use Rattle.step.specs.Step.{digitAt, rowsIn, stepAnswer, stepLeft}
+use Rattle.monitors.specs.State.{freshState}
+use Rattle.step.specs.Step.{digitAt, outputSize, stateDigits, rowsIn, stepAnswer, stepLeft}
 
--- "activators, signals and lent buffer may be any in each call"; so may be the number of zeros that it gets until one is answered, which
--- 01 does not fix
+-- "activators, signals and lent buffer may be any in each call"; so may be the number of rows for which it gets a fresh state until one is
+-- answered, which 01 does not fix
 pub record Call : Type 0 where
   pub activators : List ℕ
   pub signals : List ℕ
   pub buffer : List ℕ
-  pub zeros : ℕ
+  pub rows : ℕ
 
 -- what there is to hand on: nothing as long as no call has been answered, then what the last answered one wrote
 pub data Kept : Type 0 where
@@ -26,10 +27,10 @@ pub data Kept : Type 0 where
   wrote : List ℕ → Kept
 
 -- "Until one is answered, calls get pendings that are all 0. After that each gets, as a copy that nobody else alters, the pendings
--- that the last answered one wrote": the pendings of a call with so many zeros
+-- that the last answered one wrote": the state that a call gets, fresh for so many rows
 abbrev pub given : Kept → ℕ → List ℕ
-given fresh zeros = replicate zeros 48
-given (wrote pendings) zeros = pendings
+given fresh rows = stateDigits rows freshState
+given (wrote state) rows = state
 
 -- what follows of an answered call, and of a refused one
 abbrev pub onAnswer : {A : Type 0} → Bytes → A → A → A
@@ -50,16 +51,16 @@ module _ (f : Formula) (calls : ℕ → Call) where
   kept zero = fresh
   kept (suc i) =
       let call = calls i in
-      let pendings = given (kept i) (call .zeros) in
-      onAnswer (stepAnswer f pendings (call .activators) (call .signals) (call .buffer))
-      (wrote (part (2 * rowsIn f) (3 * rowsIn f) (stepLeft f pendings (call .activators) (call .signals) (call .buffer))))
+      let state = given (kept i) (call .rows) in
+      onAnswer (stepAnswer f state (call .activators) (call .signals) (call .buffer))
+      (wrote (part (2 * rowsIn f) (outputSize (rowsIn f)) (stepLeft f state (call .activators) (call .signals) (call .buffer))))
       (kept i)  -- "A refused call changes none of them"
 
-  -- the pendings that call i gets
+  -- the state that call i gets
   abbrev pub handed : ℕ → List ℕ
-  handed i = given (kept i) (calls i .zeros)
+  handed i = given (kept i) (calls i .rows)
 
-  -- whether call i is answered, and what it leaves in its buffer: the digits of failed, then accept, then pending, each by row
+  -- whether call i is answered, and what it leaves in its buffer: the digits of failed, then accept, then the state
   abbrev pub answered : ℕ → Bool
   answered i = onAnswer (stepAnswer f (handed i) (calls i .activators) (calls i .signals) (calls i .buffer)) true false
 

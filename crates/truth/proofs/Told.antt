@@ -11,6 +11,7 @@ use Rattle.meaning.specs.Reading.{classical}
 use Rattle.meaning.specs.Trace.{InfiniteTrace, signalAt}
 use Rattle.meaning.specs.Satisfaction.{Table, tableOf}
 use Rattle.meaning.specs.Rows.{Ordered}
+use Rattle.meaning.specs.Covers.{CoversIn}
 use Rattle.meaning.proofs.Readings.{On}
 use Rattle.meaning.proofs.Evaluation.{bitsOf, bits-computed}
 use Rattle.meaning.proofs.StrongTruth.{cyclesBelow}
@@ -40,7 +41,7 @@ module _ (g : NormalForm) (t : Trace) (ok : InNormalForm g) where
       let e = prefix-truth n w p m ordered (form-positive g ok) (prefixBits n w p) (bits-computed (cyclesBelow n) (prefix n w) (toEnd n w) p m ordered) classical k h c in
       (λ x. e .0 (b, x), λ x. e .1 x .1)
 
-  -- there are such bits for any recording
-  pub told-bits : (ending : Ending) → LoopBelow (t .cycles) ending → (bits : ℕ → ℕ → Bool) × Told ending bits
-  told-bits Open below = (prefixBits (t .cycles) (signalAt t) (tableOf (g .places)), prefix-told)
-  told-bits (Loop l) below = let x = true-bits g t l ok below in (x .0, x .2)
+  -- there are such bits for any recording that covers the form
+  pub told-bits : (ending : Ending) → LoopBelow (t .cycles) ending → CoversIn g t ending → (bits : ℕ → ℕ → Bool) × Told ending bits
+  told-bits Open below covers = (prefixBits (t .cycles) (signalAt t) (tableOf (g .places)), prefix-told)
+  told-bits (Loop l) below covers = let x = true-bits g t l ok below covers in (x .0, x .2)

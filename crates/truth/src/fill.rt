@@ -3,6 +3,7 @@ use tables::row::NormalForm;
 use tables::trace::Ending;
 use tables::trace::Lane;
 use tables::trace::Trace;
+ghost use Rattle.meaning.specs.Covers.{CoversForm};
 ghost use Rattle.normal_form.specs.Form.{InNormalForm};
 ghost use Rattle.take_file.specs.Valid.{InRange};
 ghost use Rattle.lanes.specs.Truth.{Filled};
@@ -14,7 +15,7 @@ pub struct Truth {
 
 // An open take is filled row by row, all cycles at once; a looped one cycle by cycle, all rows at each.
 pub fn fill(form: NormalForm, trace: Trace) -> Truth
-    requires { ⌜ InNormalForm form × InRange trace ⌝ }
+    requires { ⌜ InNormalForm form × InRange trace × CoversForm form trace ⌝ }
     ensures filled { λ r. ⌜ Filled form trace (r .lanes) ⌝ }
 {
     let ending = trace.ending;

@@ -1,8 +1,14 @@
+use mathlib.Core.Path.{_≡_, refl}
+use mathlib.Core.Bool.{Bool, true, false, not}
 use borrow.Author.Needs.{needs}
 use Rattle.cycle_rows.specs.Cells.{rowCell}
-use Rattle.between_rounds.proofs.Bits.{same-off}
+use Rattle.between_rounds.specs.Between.{sameBit}
 use Rattle.between_rounds.proofs.same_at.Statement.{statement}
 use Rattle.between_rounds.proofs.same_at.Tie as tie
+
+same-off : (x : Bool) → not x ≡ sameBit false x
+same-off true = refl
+same-off false = refl
 
 returns : tie.Need-returns
 returns c = rw (c .before .if1 .taken)

@@ -1,3 +1,7 @@
+use Rattle.tables.proofs.Outcomes.{both-accept}
+use Rattle.meeting.specs.Meeting.{coveredTake}
+use Rattle.meeting.specs.declared.Wanted.the-variants.{Either}
+use Rattle.meeting.proofs.Covered.{accepted-range}
 use mathlib.Core.Path.{refl}
 use native.Mathlib.Omega.{arith}
 use Rattle.checking.specs.Answer.{metOutcome}
@@ -21,11 +25,12 @@ deliver-refusal-requires c κs =
 
 deliver-finding-requires : tie.Need-deliver-finding-requires
 deliver-finding-requires c κs =
-    let args = c .before .before .before .before .before .before .args in
+    let a = c .before .before .before .before .before .before .args in
     let pre = c .before .before .before .before .before .before .pre in
     let check-met = c .before .before .before .before .check-met in
-    let a = args in finding-cycle _ (a .trace) (a .activation) (pre .1) _ (told-checked (a .formula) (a .trace) (a .activation) (metOutcome (a
-    .formula) (a .trace) (a .activation)) (check-met .ensures .so) (c .before .before .answer2 .given .1) .1)
+    let x = told-checked (a .formula) (a .trace) (a .activation) (metOutcome (a .formula) (a .trace) (a .activation)) (check-met .ensures .so) (c .before .before .answer2 .given .1) in
+    let range = accepted-range Either (a .formula) (a .trace) (pre .1) (both-accept _ _ (x .0) .0) in
+    finding-cycle _ (coveredTake (a .formula) (a .trace)) (a .activation) range _ (x .1)
 
 returns : tie.Need-returns
 returns c =

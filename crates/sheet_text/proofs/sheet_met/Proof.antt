@@ -2,8 +2,9 @@ use native.Mathlib.Omega.{arith}
 use Rattle.tables.proofs.Choices.{know}
 use Rattle.meeting.specs.declared.Wanted.the-variants.{Either}
 use Rattle.meeting.proofs.Laws.{meeting-line}
+use Rattle.meeting.proofs.Covered.{have-met, met-form, met-range, met-covers}
 use Rattle.writing.proofs.Answers.{told-refused, told-accepted}
-use Rattle.sheet_maker.proofs.Sheets.{form-met, made-met, rows-met, cycles-met}
+use Rattle.sheet_maker.proofs.Sheets.{rows-met, cycles-met}
 use Rattle.sheet_text.specs.Answer.{IsMadeText}
 use Rattle.sheet_text.proofs.Answers.{sheet-text, none-text}
 use borrow.Author.Needs.{needs}
@@ -16,22 +17,24 @@ deliver-refusal-requires c κs = omega (arith, meeting-line Either (c .before .b
 truth-sheet-requires : tie.Need-truth-sheet-requires
 truth-sheet-requires c κs =
     let start = c .before .before .before .before in
-    let same = c .before .before .meet .ensures .1 (c .enum-told .given .1) in
-    (form-met (start .args .formula) (start .args .trace) (start .pre .0) (start .pre .1) same, start .pre .1)
+    let met = have-met Either (start .args .formula) (start .args .trace) (start .pre) (c .before .before .meet .ensures) (c .enum-told .given .1) in
+    (met-form met, met-range met, met-covers met)
 
 sets-root-requires : tie.Need-sets-root-requires
 sets-root-requires c κs =
     let start = c .before .before .before .before .before in
-    let same = c .before .before .before .meet .ensures .1 (c .before .enum-told .given .1) in
-    rows-met (start .args .formula) (start .args .trace) (start .pre .0) (start .pre .1) same (c .truth-sheet .ensures)
+    rows-met (have-met Either (start .args .formula) (start .args .trace) (start .pre) (c .before .before .before .meet .ensures) (c .before .enum-told .given .1))
+    (c .truth-sheet .ensures)
 
 write-sheet-requires : tie.Need-write-sheet-requires
 write-sheet-requires c κs =
     let start = c .before .before .before .before .before .before .before .before in
-    let same = c .before .before .before .before .before .before .meet .ensures .1 (c .before .before .before .before .enum-told .given .1) in
+    let meet = c .before .before .before .before .before .before .meet .ensures in
+    let told = c .before .before .before .before .enum-told .given .1 in
+    let met = have-met Either (start .args .formula) (start .args .trace) (start .pre) meet told in
     let made = c .before .before .before .truth-sheet .ensures in
-    let rows = rows-met (start .args .formula) (start .args .trace) (start .pre .0) (start .pre .1) same made in
-    (rows .0, rows .1, cycles-met (start .args .formula) (start .args .trace) (start .pre .0) (start .pre .1) same made)
+    let rows = rows-met met made in
+    (rows .0, rows .1, cycles-met met made)
 
 returns : tie.Need-returns
 returns c = told-refused _ (IsMadeText (c .before .before .before .before .before .before .before .before .before .args .formula) (c .before .before .before .before .before .before .before .before .before .args .trace)) (know (c .before .before .before .before .before .before .before .meet .ensures .0) (c .before .before .before .before .before .outcome .given .1)) (c .before .before .deliver-refusal .ensures)
@@ -41,9 +44,9 @@ returns-2 c =
     let start = c .before .before .before .before .before .before .before .before .before .before .before in
     let meet = c .before .before .before .before .before .before .before .before .before .meet .ensures in
     let told = c .before .before .before .before .before .before .before .enum-told .given .1 in
-    let made = made-met (start .args .formula) (start .args .trace) (start .pre .0) (start .pre .1) (meet .1 told) (c .before .before .before .before .before .before .truth-sheet .ensures) in
-    let text = sheet-text (start .args .formula) (start .args .trace) (start .pre .0) (start .pre .1) _ made (c .before .before .before .before .before .sets-root .ensures)
-    (c .before .before .before .before .if1 .taken) in
+    let met = have-met Either (start .args .formula) (start .args .trace) (start .pre) meet told in
+    let made = c .before .before .before .before .before .before .truth-sheet .ensures in
+    let text = sheet-text met made (c .before .before .before .before .before .sets-root .ensures) (c .before .before .before .before .if1 .taken) in
     told-accepted _ (IsMadeText (start .args .formula) (start .args .trace)) _ (know (meet .0) told) text (c .before .before .write-sheet .ensures)
 
 returns-3 : tie.Need-returns-3
@@ -51,9 +54,9 @@ returns-3 c =
     let start = c .before .before .before .before .before .before .before .before .before .before .before .before in
     let meet = c .before .before .before .before .before .before .before .before .before .before .meet .ensures in
     let told = c .before .before .before .before .before .before .before .before .enum-told .given .1 in
-    let made = made-met (start .args .formula) (start .args .trace) (start .pre .0) (start .pre .1) (meet .1 told) (c .before .before .before .before .before .before .before .truth-sheet .ensures) in
-    let text = none-text (start .args .formula) (start .args .trace) (start .pre .0) (start .pre .1) _ made (c .before .before .before .before .before .before .sets-root .ensures)
-    (c .before .before .before .before .before .if1 .left) in
+    let met = have-met Either (start .args .formula) (start .args .trace) (start .pre) meet told in
+    let made = c .before .before .before .before .before .before .before .truth-sheet .ensures in
+    let text = none-text met made (c .before .before .before .before .before .before .sets-root .ensures) (c .before .before .before .before .before .if1 .left) in
     told-accepted _ (IsMadeText (start .args .formula) (start .args .trace)) _ (know (meet .0) told) text (c .before .before .deliver .ensures)
 
 pub sheet-met-spec : {M : Type 1} → statement M

@@ -12,8 +12,8 @@ returns : tie.Need-returns
 returns c =
     let args = c .before .before .before .before .before .before .before .before .args in
     let check-formula = c .before .before .before .check-formula in
-    let x = args in refused-both (x .formula) (x .pendings .now) (x .activators .now) (x .signals .now) (x .buf .now) (own-refused (x .formula) (x
-    .pendings .now) (x .activators .now) (x .signals .now) (x .buf .now) (know (check-formula .ensures .0) (c .before .own .given .1)))
+    let x = args in refused-both (x .formula) (x .given .now) (x .activators .now) (x .signals .now) (x .buf .now) (own-refused (x .formula) (x
+    .given .now) (x .activators .now) (x .signals .now) (x .buf .now) (know (check-formula .ensures .0) (c .before .own .given .1)))
 
 returns-2 : tie.Need-returns-2
 returns-2 c =
@@ -23,8 +23,8 @@ returns-2 c =
     let enum-told = c .before .before .before .before .enum-told in
     let x = args in let own = know (check-formula .ensures .0) (enum-told .given .1) in (
       step-met .ensures .0 ∙ sym (met-answer (x .formula) (x
-          .pendings .now) (x .activators .now) (x .signals .now) (x .buf .now) own),
-      step-met .ensures .1 ∙ sym (met-left (x .formula) (x .pendings .now)
+          .given .now) (x .activators .now) (x .signals .now) (x .buf .now) own),
+      step-met .ensures .1 ∙ sym (met-left (x .formula) (x .given .now)
           (x .activators .now) (x .signals .now) (x .buf .now) own),
     )
 

@@ -1,27 +1,29 @@
-use Rattle.cycle_rows.proofs.ByKind.{binary-not-next}
 use borrow.Author.Needs.{needs}
 use Rattle.cycle_rows.proofs.prepare.is_next.Statement.{statement}
 use Rattle.cycle_rows.proofs.prepare.is_next.Tie as tie
 
-returns-7 : tie.Need-returns-7
-returns-7 c = rw (c .enum-told7 .given .1) (binary-not-next (c .enum-told7 .given .0 .0))
+returns : tie.Need-returns
+returns c = rw (← c .before .before .pattern-of .ensures, c .enum-told .given .1)
+
+returns-2 : tie.Need-returns-2
+returns-2 c = rw (← c .before .before .pattern-of .ensures, c .enum-told2 .given .1)
+
+returns-3 : tie.Need-returns-3
+returns-3 c = rw (← c .before .before .pattern-of .ensures, c .enum-told3 .given .1)
+
+returns-4 : tie.Need-returns-4
+returns-4 c = rw (← c .before .before .pattern-of .ensures, c .enum-told4 .given .1)
 
 pub is-next-spec : {M : Type 1} → statement M
 is-next-spec =
     tie.close
     (tie.spec
+    (λ c κs. search needs)
     (λ c. search needs)
     (λ c. search needs)
     (λ c. search needs)
     (λ c. search needs)
-    (λ c. search needs)
-    (λ c. search needs)
-    (λ c. search needs)
-    (λ c. search needs)
-    (λ c. search needs)
-    (λ c. search needs)
-    (λ c. search needs)
-    (λ c. search needs)
-    (λ c. search needs)
-    (λ c. search needs)
-    returns-7)
+    returns
+    returns-2
+    returns-3
+    returns-4)

@@ -5,7 +5,10 @@ use Rattle.rounds.proofs.round.fill_at.Statement.{statement}
 use Rattle.rounds.proofs.round.fill_at.Tie as tie
 
 returns : tie.Need-returns
-returns c = λ g ok e s. cycle-alike g ok _ _ _ _ (λ i a b. c .before .before .put-signals .ensures .0 _ (let m = ok .most-signals in omega arith)) (λ k h. c .before .before .put-signals .ensures .1 _ (omega arith)) _ (c .fill-cycle .ensures g ok e s .rows)
+returns c = λ g ok e s.
+    let put = c .before .before .put-signals in
+    cycle-alike g ok _ _ (record { signals = λ i a b. put .ensures .0 _ (let m = ok .most-signals in omega arith) }) _ _
+    (λ k h. put .ensures .1 _ (omega arith)) _ (c .fill-cycle .ensures g ok e s .rows)
 
 pub fill-at-spec : {M : Type 1} → statement M
 fill-at-spec = tie.close (tie.spec (λ c κs. search needs) (λ c κs. search needs) returns)

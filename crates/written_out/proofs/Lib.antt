@@ -1,0 +1,4 @@
+pub mod OneLane
+pub mod Lanes
+pub mod Whole
+pub mod Laws
