@@ -10,6 +10,7 @@ mod reading;
 mod rules;
 mod runs;
 mod show;
+mod takes;
 mod texts;
 
 fn report(case: &[u8]) {
@@ -31,6 +32,9 @@ fn report(case: &[u8]) {
         return;
     }
     if texts::tried(case) {
+        return;
+    }
+    if takes::tried(case) {
         return;
     }
     if !all_sheets::tried(case) {

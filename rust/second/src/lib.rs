@@ -4,7 +4,7 @@
 //! library: truth is evaluated by the quantifiers of the meaning, at every cycle anew; the normal form by recursion from the
 //! root; a sheet is checked by running the monitors along the endless take; files are split into lines and words; a run is a rule
 //! file and a take file, judged anew at each call; a circuit is simulated from its outputs down to its inputs, and the monitors are
-//! wired by counting variables along.
+//! wired by counting variables along; a loop is written out by appending one round after another.
 //! It is meant to be plainly right and not to be fast.
 
 #![forbid(unsafe_code)]

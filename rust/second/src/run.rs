@@ -5,7 +5,7 @@
 //! read are exactly those that some rule and some cycles are written as.
 
 use crate::rule::{Row, Rule, WORDS};
-use crate::take::MOST_CYCLES;
+use crate::take::{file, MOST_CYCLES};
 
 /// The bytes of a run.
 const BYTES: usize = 1220;
@@ -59,8 +59,7 @@ impl Run {
 
     /// The take file of the cycles so far.
     pub fn take(&self) -> String {
-        let lines: String = (0..).zip(&self.cycles).map(|(cycle, digits)| format!("c{cycle}={digits}\n")).collect();
-        format!("format=1\nsignals={}\ncycles={}\nloop=none\n{lines}", self.rule.signals, self.cycles.len())
+        file(self.rule.signals, "none", &self.cycles)
     }
 }
 

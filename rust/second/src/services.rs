@@ -135,6 +135,12 @@ pub fn make_sheet(rule: &[u8], take: &[u8], output: &mut [u8]) -> Result<Option<
     made(&rule, &take).map(|sheet| write(sheet.as_bytes(), output)).transpose()
 }
 
+/// Writes the take file with so many rounds of the loop written out before the loop; its length, or none.
+pub fn written_out(take: &[u8], rounds: u8, output: &mut [u8]) -> Result<Option<usize>, Refusal> {
+    let longer = Take::read(take)?.written_out(rounds);
+    longer.map(|take| write(take.to_string().as_bytes(), output)).transpose()
+}
+
 /// What a check of a sheet finds.
 pub fn check_sheet(rule: &[u8], take: &[u8], sheet: &[u8]) -> Result<Finding, Refusal> {
     let rule = Rule::read(rule)?;

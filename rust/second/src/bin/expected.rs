@@ -5,10 +5,11 @@
 
 use second::{
     bound, check_sheet, circuit, judge_text, make_sheet, normal, normal_length, read_circuit, read_rule, read_sheet,
-    read_take, run_begin, run_cycle, run_rule, run_verdict, sheet_length, simulate, step, Finding, Refusal,
+    read_take, run_begin, run_cycle, run_rule, run_verdict, sheet_length, simulate, step, written_out, Finding,
+    Refusal,
 };
 
-/// The longest text of `judge` or `sheet`: a sheet of 128 rows and 256 cycles.
+/// The longest text that a service writes: a sheet of 128 rows and 256 cycles.
 const MOST_TEXT: usize = 33_567;
 /// The most digits of a sheet where all sheets are tried.
 const MOST_DIGITS: usize = 12;
@@ -29,6 +30,7 @@ fn main() {
 fn answer(words: &[&str]) -> Result<String, Refusal> {
     let ok = |(): ()| "ok\n".to_string();
     let length = |bytes: usize| format!("length={bytes}\n");
+    let or_none = |text: Option<String>| text.unwrap_or("none\n".into());
     match *words {
         ["read_rule", rule] => read_rule(&load(rule)).map(ok),
         ["read_take", take] => read_take(&load(take)).map(ok),
@@ -48,11 +50,13 @@ fn answer(words: &[&str]) -> Result<String, Refusal> {
         }
         ["judge", rule, take] => Ok(judged(rule, take)),
         ["sheet_length", rule, take] => sheet_length(&load(rule), &load(take)).map(length),
-        ["sheet", rule, take] => {
-            written(|output| make_sheet(&load(rule), &load(take), output)).map(|sheet| sheet.unwrap_or("none\n".into()))
-        }
+        ["sheet", rule, take] => written(|output| make_sheet(&load(rule), &load(take), output)).map(or_none),
         ["check_sheet", rule, take, sheet] => {
             check_sheet(&load(rule), &load(take), &load(sheet)).map(|finding| finding.to_string())
+        }
+        ["written_out", take, rounds] => {
+            let rounds = rounds.parse().expect("a number of rounds");
+            written(|output| written_out(&load(take), rounds, output)).map(or_none)
         }
         ["all_sheets", rule, take] => Ok(all_sheets(rule, take)),
         ["run", rule, ref calls @ ..] => run(rule, calls),
