@@ -1,9 +1,10 @@
 """Takes with rounds of their loop written out before it (02, request 6): d rounds make of n cycles with loop l and p = n - l those of
-n + d p with loop l + d p, and none where these are more than 256. All answers stand here by hand."""
+n + d p with loop l + d p, and none where these are more than 256. The answers stand here by hand, those of long takes as
+the slices of the take that they are."""
 from judge_cases import FULL
 from suite import case, refusal, take, take_text
 
-PATTERN = [digits[:3] for digits in FULL]  # three signals, which repeat nowhere in 256 cycles
+PATTERN = [digits[:3] for digits in FULL]  # three signals, with no period in 256 cycles
 
 
 def written(name, rounds, cycles, loop='none'):

@@ -28,8 +28,7 @@ use Rattle.judging.specs.declared.verdict.Verdict.the-variants.{Holds, Breaks, 
 use Rattle.judging.proofs.ByBits.{computedVerdict, verdict-computed}
 use Rattle.writing.specs.declared.answer.Bytes.the-variants.{Count}
 use Rattle.sheet_maker.specs.Length.{sheetLength}
-use Rattle.meaning.specs.Covers.{CoversForm}
-use Rattle.written_out.proofs.Laws.{coverable, covered-covers, covered-itself}
+use Rattle.written_out.proofs.Laws.{covered-itself, covers-itself}
 use Rattle.sheet_maker.specs.Made.{SatisfiedIn, IsMade}
 use Rattle.sheet_maker.proofs.Demand.{sheet-made}
 use Rattle.sheet_length.specs.Answer.{Measured, Measured.sheet, Measured.none, Measures}
@@ -56,8 +55,7 @@ module _ (f : Formula) (t : Trace) (rule : FormulaValid f) (take : TraceValid t)
   made satisfied =
       let ok : InNormalForm g = form-normal f Plain (rule .in-range) in
       let itself : coveredTake f t ≡ t = covered-itself g t in
-      let covers = subst (CoversForm g) itself (covered-covers g t (take .range) (coverable g t (take .range))) in
-      let s = sheet-made g t ok (take .range .most-cycles) (take .range .loop) covers in
+      let s = sheet-made g t ok (take .range .most-cycles) (take .range .loop) (covers-itself g t (take .range)) in
       let a : Activation = s .0 in
       let is : IsMade g t a = s .1 in
       let size = made-size g t a (ok .most-rows) (take .range .most-cycles) is in

@@ -22,6 +22,7 @@ use Rattle.step.proofs.Outputs.{failedDigit, acceptDigit}
 use Rattle.step_calls.specs.Calls.{Call, Kept.fresh, Kept.wrote, InOrder, kept, handed, answered, left}
 use Rattle.step_calls.proofs.Order.{at-first, at-next}
 use Rattle.step_calls.proofs.Steps.{state-digits-size, answered-range, answered-fits, left-is, kept-is, handed-on, kept-back, handed-fresh}
+use Rattle.monitor_circuit.specs.Monitors.{latchedState}
 use Rattle.monitor_circuit.specs.Steps.{ruleCircuit, inputsIn}
 use Rattle.monitor_circuit.proofs.OneCycle.{outputs-said, nexts-at, nexts-said}
 
@@ -58,7 +59,7 @@ module _ (f : Formula) (calls : ℕ → Call) (at : ℕ → ℕ) (order : InOrde
 
   -- THE LATCHES ARE THE STATE THAT THE STEP HANDS ON
   pub latches-are : (i : ℕ) → i ≤ n
-      → SameState (RowTo (rowsIn f)) (stateAt (rowsIn f) (λ j. latchIn (ruleCircuit f) values i (j - 1)))
+      → SameState (RowTo (rowsIn f)) (latchedState (normalForm f Plain) (latchIn (ruleCircuit f) values i))
       (stateAt (rowsIn f) (digitAt (handed f calls (at i))))
   unfolding latchIn
   latches-are zero l = same-sym (handed-fresh f calls (at 0) (order .each 0) fresh-first)

@@ -16,11 +16,11 @@ use Rattle.normal_form.specs.Form.{InNormalForm}
 use Rattle.normal_form.proofs.FormTables.{form-operands, form-signals}
 use Rattle.circuit.specs.Circuit.{Latch, latchAt}
 use Rattle.circuit.specs.Valuation.{Valuation, IsValuation, outputValues, nextLatches}
-use Rattle.monitors.specs.State.{stateAt, rowState}
+use Rattle.monitors.specs.State.{rowState}
 use Rattle.monitors.proofs.States.{SameState, RowTo, state-read, order-alike, mapState, map-order, same-trans, same-map}
 use Rattle.step.specs.Step.{digitAt, digitOf, stateDigits, stateGiven, rowOutput, stateLeft, formOutput}
 use Rattle.step.proofs.Outputs.{failedDigit, acceptDigit}
-use Rattle.monitor_circuit.specs.Monitors.{signalLiteral, activatorLiteral, stateLiterals, gateLiteral, wiringOf, latchesOf, circuitOf}
+use Rattle.monitor_circuit.specs.Monitors.{signalLiteral, activatorLiteral, stateLiterals, gateLiteral, wiringOf, latchesOf, circuitOf, latchedState}
 use Rattle.monitor_circuit.proofs.Rows.{Says, row-says}
 use Rattle.monitor_circuit.proofs.Values.{false-off, true-on, signal-value, activator-value, state-value, gates-value}
 
@@ -41,7 +41,7 @@ digit-behind s a m k e =
 -- a cycle of the circuit with these signals, activators and state
 module _ (g : NormalForm) (ok : InNormalForm g) (p a s : List ℕ) (count : length s ≡ g .signals) {inputs latches : ℕ → Bool}
     (same-inputs : (i : ℕ) → i < g .signals + g .rows → inputs i ≡ digitAt (s ++ a) (suc i))
-    (same-latches : SameState (RowTo (g .rows)) (stateAt (g .rows) (λ j. latches (j - 1))) (stateGiven g p a s))
+    (same-latches : SameState (RowTo (g .rows)) (latchedState g latches) (stateGiven g p a s))
     {v : Valuation} (values : IsValuation (circuitOf g) inputs latches v) where
   signal-digit : (x : ℕ) → 1 ≤ x → x ≤ g .signals → v (signalLiteral g x) ≡ digitAt s x
   signal-digit zero l h = absurd (omega arith)
@@ -97,7 +97,7 @@ module _ (g : NormalForm) (ok : InNormalForm g) (p a s : List ℕ) (count : leng
       pending (suc k) h = row-said k (h .1) .says-pending
 
   -- by the latches' places
-  pub nexts-at : SameState (RowTo (g .rows)) (stateAt (g .rows) (λ j. v (latchAt (circuitOf g) (j - 1) .next))) (stateLeft g p a s)
+  pub nexts-at : SameState (RowTo (g .rows)) (latchedState g (λ j. v (latchAt (circuitOf g) j .next))) (stateLeft g p a s)
   nexts-at =
       same-trans (same-map (λ (q : Latch). v (q .next)) (state-read (g .rows) (latchesOf g) (record { current = 0; next = 0 }))) nexts-hold
 

@@ -11,9 +11,8 @@ use Rattle.tables.specs.declared.row.NormalForm.{NormalForm}
 use Rattle.tables.proofs.Places.{length-tabulate, getD-tabulate}
 use Rattle.circuit.specs.Circuit.{Latch}
 use Rattle.circuit.specs.Valuation.{Valuation, IsValuation}
-use Rattle.monitors.specs.State.{stateAt}
 use Rattle.monitors.proofs.States.{SameState, RowTo, state-size, state-read, mapState, same-sym, same-trans, same-map, same-places}
-use Rattle.monitor_circuit.specs.Monitors.{signalLiteral, activatorLiteral, stateLiterals, latchCount, gateLiteral, wiringOf, latchesOf, circuitOf}
+use Rattle.monitor_circuit.specs.Monitors.{signalLiteral, activatorLiteral, stateLiterals, latchCount, gateLiteral, wiringOf, latchesOf, circuitOf, latchedState}
 use Rattle.monitor_circuit.proofs.GateRows.{RowAt, row-at, gates-count}
 use Rattle.monitor_circuit.proofs.Rows.{Gates}
 
@@ -48,7 +47,7 @@ module _ (g : NormalForm) {inputs latches : ℕ → Bool} {v : Valuation} (value
       ∙ values .inputs-given i (rw stripes-size (omega arith))
 
   -- THE GATES READ THE STATE THAT THE LATCHES HOLD, each latch by its place
-  pub state-value : SameState (RowTo n) (mapState v (stateLiterals g)) (stateAt n (λ j. latches (j - 1)))
+  pub state-value : SameState (RowTo n) (mapState v (stateLiterals g)) (latchedState g latches)
   state-value =
       let size : length (circuitOf g .latches) ≡ latchCount g = state-size n (latchesOf g) in
       same-trans (same-sym (same-map (λ (q : Latch). v (q .current)) (state-read n (latchesOf g) (record { current = 0; next = 0 }))))

@@ -1,5 +1,6 @@
 -- The circuit of a normal form's monitors (02, 4); docs/CIRCUIT.md has the scheme and an example. Assumes nothing.
 use Prim.Native.Nat.{ℕ, zero, suc, _+_, _*_, _-_}
+use mathlib.Core.Bool.{Bool}
 use mathlib.Core.List.{List, [], _∷_, _++_}
 use Rattle.tables.specs.Place.{tabulate}
 use Rattle.tables.specs.declared.row.NormalForm.{NormalForm}
@@ -36,6 +37,11 @@ module _ (g : NormalForm) where
   wiringOf k =
       rowWiring (activatorLiteral k) (stateLiterals .pending k) (gateLiteral 1 k) (gateLiteral 2 k) (gateLiteral 3 k)
       signalLiteral activatorLiteral (tableOf (g .places) k)
+
+  -- the state that latches with these values hold, latch j being value j: each holds what it is the latch of, as a fresh state is 0 where
+  -- latches start
+  abbrev pub latchedState : (ℕ → Bool) → State Bool
+  latchedState values = stateAt (g .rows) (λ j. values (j - 1))
 
   -- something of each row, in their order
   abbrev pub byRow : {A : Type 0} → (ℕ → A) → List A

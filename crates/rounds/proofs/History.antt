@@ -42,7 +42,7 @@ put-other columns r x q ne = ap (λ b. pick b x (columns q)) (ne-eqb q r ne)
 -- ---- where a round ends, and where it begins
 
 -- no row looks back yet
-ends-at-loop : (g : NormalForm) (l : ℕ) → roundEnd g l ≡ l
+pub ends-at-loop : (g : NormalForm) (l : ℕ) → roundEnd g l ≡ l
 ends-at-loop g l = ap (λ n. pick (eqb n 0) l 0) (nesting-none g)
 
 -- a row goes on or starts anew

@@ -44,7 +44,7 @@ use Rattle.judging.proofs.Verdicts.{kept-continued}
 use Rattle.monitors.specs.Sheet.{activatorAt, Fits, IsRow, PassesLooped, PassesOpen, PassesIn, Passes}
 use Rattle.meaning.specs.Covers.{CoversIn, CoversForm}
 use Rattle.written_out.specs.Covered.{CoverableIn, Coverable}
-use Rattle.written_out.proofs.Laws.{coverable}
+use Rattle.written_out.proofs.Laws.{coverable, covered-itself}
 use Rattle.meeting.proofs.Covered.{met-coverable, HaveMet, met-range, met-covers, met-open, met-ending}
 use Rattle.monitors.proofs.Facts.{looped-passing-true, looped-true-passing, open-passing-true, open-true-passing}
 use Rattle.writing.specs.declared.answer.Bytes.{Bytes}
@@ -144,15 +144,21 @@ module _ (f : Formula) (t : Trace) (fine : FormulaInRange f) (range : TraceInRan
   pub sheet-exists : HasSheet f t ↔ Satisfied f t
   sheet-exists = (λ x. passing-satisfied (x .0) (x .2), λ x. made-sheet f (coveredTake f t) fine (met-range met) (met-covers met) (satisfied-covered met .1 x))
 
-module _ (f : Formula) (t : Trace) (fine : FormulaInRange f) (range : TraceInRange t) where
-  -- "A looped take has a passing activator sheet of its own cycles and loop exactly when its endless repetition satisfies the rule."
-  pub looped-sheet : (l : ℕ) → t .ending ≡ Loop l
+  -- of a looped take: a passing sheet for the cycles and the loop of the take that it covers
+  pub covered-sheet : (l : ℕ) → t .ending ≡ Loop l
       → ((a : Activation) × Fits (normalForm f Plain) (coveredTake f t) a × PassesLooped (normalForm f Plain) (coveredTake f t) (coveredLoop f t l) a) ↔ Satisfies classical (unrolled t l) f
+  covered-sheet l e =
+      subst (λ y. ((a : Activation) × Fits (normalForm f Plain) (coveredTake f t) a × PassesIn (normalForm f Plain) (coveredTake f t) y a) ↔ Satisfies classical (unrolled t l) f) (met-ending met l e)
+      (subst (λ y. HasSheet f t ↔ SatisfiedIn f t y) e sheet-exists)
+
+module _ (f : Formula) (t : Trace) (fine : FormulaInRange f) (range : TraceInRange t) where
+  -- "A looped take has a passing activator sheet of its own cycles and loop exactly when its endless repetition satisfies the rule.":
+  -- the take that a sheet covers is the take itself
+  pub looped-sheet : (l : ℕ) → t .ending ≡ Loop l → ((a : Activation) × Fits (normalForm f Plain) t a × PassesLooped (normalForm f Plain) t l a) ↔ Satisfies classical (unrolled t l) f
   looped-sheet l e =
-      let able = coverable (normalForm f Plain) t range in
-      subst (λ y. ((a : Activation) × Fits (normalForm f Plain) (coveredTake f t) a × PassesIn (normalForm f Plain) (coveredTake f t) y a) ↔ Satisfies classical (unrolled t l) f)
-      (met-ending (met f t fine range able) l e)
-      (subst (λ y. HasSheet f t ↔ SatisfiedIn f t y) e (sheet-exists f t fine range able))
+      subst (λ y. ((a : Activation) × Fits (normalForm f Plain) t a × PassesIn (normalForm f Plain) t y a) ↔ SatisfiedIn f t y) e
+      (subst (λ u. ((a : Activation) × Fits (normalForm f Plain) u a × Passes (normalForm f Plain) u a) ↔ Satisfied f t) (covered-itself (normalForm f Plain) t)
+      (sheet-exists f t fine range (coverable (normalForm f Plain) t range)))
 
   -- "An open take has a passing sheet, with nothing failed and nothing pending after its last cycle, exactly when it is kept,
   module _ (e : t .ending ≡ Open) where

@@ -1,5 +1,5 @@
 -- Laws of the written-out take, over the number of rounds (written-from: its endless repetition is the same) and then over as many as past
--- operators are nested in a normal form (covered-range to covered-covers). They say nothing of how many these are; only the last two rest
+-- operators are nested in a normal form (covered-range to covered-covers). They say nothing of how many these are; only the last three rest
 -- on there being none yet. Assumes nothing.
 use Prim.Native.Nat.{ℕ, suc, _+_, _*_, _-_, _%_, _^_, _≤_, _<_}
 use mathlib.Core.Path.{_≡_, refl, sym, ap, subst, subst⁻¹, _∙_}
@@ -209,3 +209,7 @@ coverable g t range = by (t .ending)
 
 pub covered-itself : (g : NormalForm) (t : Trace) → covered g t ≡ t
 covered-itself g t = covered-unnested g t (nesting-none g)
+
+-- every take in range covers every normal form
+pub covers-itself : (g : NormalForm) (t : Trace) → InRange t → CoversForm g t
+covers-itself g t range = subst (CoversForm g) (covered-itself g t) (covered-covers g t range (coverable g t range))

@@ -9,15 +9,12 @@ use Rattle.written_out.proofs.written_out.Reads as reads
 use Rattle.written_out.proofs.written_out.Lts as lts
 use Rattle.written_out.proofs.loop_out.Reads as loop-out-reads
 
--- src/lib.rt:96:25
 enum-told : tie.Need-enum-told
 enum-told c = search needs
 
--- src/lib.rt:100:22
 enum-known-ending : tie.Need-enum-known-ending
 enum-known-ending c = search needs
 
--- src/lib.rt:102:17
 returns : tie.Need-returns
 returns c =
     let x = c .before .before .before .before .args in
@@ -25,22 +22,18 @@ returns c =
     ap (writtenOut (x .trace)) (c .if1 .taken) ∙ written-none (x .trace) _ (c .before .before .ending .given .1) in
     sym e
 
--- src/lib.rt:107:41
 sub-more : tie.Need-sub-more
 sub-more c =
     let h = loop-below (c .before .before .before .before .before .pre) _ (c .before .before .before .ending .given .1) in omega (arith, h)
 
--- src/lib.rt:107:40
 cast-more : tie.Need-cast-more
 cast-more c = search needs
 
--- src/lib.rt:107:24
 mul-more : tie.Need-mul-more
 mul-more c =
     let start = c .before .before .before .before .before in
     let h = rounds-room (start .pre) (c .before .before .before .ending .given .0 .0) (start .args .rounds) (search needs) in omega (arith, h)
 
--- src/lib.rt:108:13
 loop-out-requires : tie.Need-loop-out-requires
 loop-out-requires c κs =
     let start = c .before .before .before .before .before in (
@@ -48,13 +41,11 @@ loop-out-requires c κs =
       rounds-room (start .pre) (c .before .before .before .ending .given .0 .0) (start .args .rounds) (search needs),
     )
 
--- src/lib.rt:90:1
 returns-2 : tie.Need-returns-2
 returns-2 c =
     let x = c .before .before .args in
     sym ((written-open (x .trace) (x .rounds) (c .enum-told .given .1)))
 
--- src/lib.rt:90:1
 returns-3 : tie.Need-returns-3
 returns-3 c =
     let x = c .before .before .before .before .before .before .args in
