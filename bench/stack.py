@@ -67,14 +67,12 @@ def frame(name, instructions):
         else:
             break
     calls, below, touched = set(), 0, 0
-    # arguments beyond the sixth are pushed before a call, and given up behind it
-    handed = {f'$0x{8 * n:x},%rsp' for n in range(1, 1 + sum(instruction == 'push' for instruction, _ in rest))}
     for (instruction, operands), (after, target) in zip(rest, rest[1:] + [('', '')]):
         if instruction == 'call' or instruction == 'jmp' and after == 'to':
             assert after == 'to', (name, instruction, operands)
             calls.add(target)
         elif instruction == 'add' and operands.endswith(',%rsp'):
-            assert operands == f'$0x{size - saved:x},%rsp' or operands in handed, (name, operands)
+            assert operands == f'$0x{size - saved:x},%rsp', (name, operands)
         else:
             assert instruction not in ('enter', 'leave') and not operands.endswith(',%rsp'), (name, instruction, operands)
         if place := re.search(r'-0x([0-9a-f]+)\(%rsp', operands):
@@ -105,10 +103,13 @@ def promised():
         return {name.lower(): int(size) for name, size in re.findall(r'#define CITRONHELM_STACK_(\w+) (\d+)u', header.read())}
 
 
-def full_size(folder, names):
-    """Files of full size, by their names."""
+def full_size(folder):
+    """The rule, the looped take, the open one, the sheet, the circuit with its inputs and latches, and the runs of full size, the last of
+    which has all cycles."""
+    subprocess.run([os.path.join(ROOT, 'target/bench/release/speed'), 'write', folder], check=True)
     files = []
-    for name in names:
+    for name in ('rule.txt', 'take.txt', 'open.txt', 'sheet.txt', 'circuit.aag', 'inputs', 'latches', 'run-0', 'run-128', 'run-255',
+                 'run-256'):
         with open(os.path.join(folder, name), 'rb') as file:
             files.append(file.read())
     return files
@@ -152,17 +153,11 @@ def turned(sheet, line, place):
 
 
 def calls(folder):
-    """Each function with its inputs and output lengths to try; those that the state of monitors or the written-out form of a take matters
-    to also with a rule that looks back."""
-    subprocess.run([os.path.join(ROOT, 'target/bench/release/speed'), 'write', folder], check=True)
-    rule, looped, opened, sheet, circuit, inputs, latches = full_size(
-        folder, ('rule.txt', 'take.txt', 'open.txt', 'sheet.txt', 'circuit.aag', 'inputs', 'latches'))
-    runs = full_size(folder, ('run-0', 'run-128', 'run-255', 'run-256'))
-    back, back_looped, back_opened, back_sheet = full_size(folder, ('back-rule.txt', 'back-take.txt', 'back-open.txt', 'back-sheet.txt'))
+    """Each function with its inputs and output lengths to try."""
+    rule, looped, opened, sheet, circuit, inputs, latches, *runs = full_size(folder)
     other = rule.replace(b'signals=32', b'signals=31').replace(b'sig 32', b'sig 31')
     rules = [*damaged(rule), with_row(rule, b'true'), with_row(rule, b'false'), b'format=1\nsignals=32\nrows=1\nr1=true\n', other]
-    rules += [back, with_row(back, b'true'), with_row(back, b'false')]
-    takes = [*damaged(looped), *damaged(opened), back_looped]
+    takes = [*damaged(looped), *damaged(opened)]
     cycles = sheet.split(b'\n')[2]
     sheets = [*damaged(sheet), turned(sheet, 1, 256), *(turned(sheet, line, place) for line in (1, 2, 60, 125) for place in (1, 2, 128, 255)),
               re.sub(rb'[01](?=[01]*\n)', b'1', sheet), sheet.replace(cycles, b'cycles=255')]
@@ -170,13 +165,12 @@ def calls(folder):
         for name in ('read_rule', 'bound', 'rows', 'normal_length'):
             yield name, [one], [0]
         yield 'normal', [one], [0, 2845]
-        yield 'circuit', [one], [0, 12999]
+        yield 'circuit', [one], [0, 9789]
         yield 'run_begin', [one], [0, 1219, 1220, 2000]
-        rows, fresh = b'0' * 125, b'0' * 250 + b'1'
-        for state, activators, signals in ((fresh, rows, b'0' * 32), (b'1' * 251, b'1' * 125, b'1' * 32), (fresh, b'1' * 125, b'0' * 32),
-                                           (b'1' * 250 + b'0', b'1' * 125, b'1' * 32), (fresh, rows, b'0' * 31), (rows, rows, b'0' * 32),
-                                           (fresh, rows[1:], b'0' * 32), (b'2' + fresh[1:], rows, b'0' * 32)):
-            yield 'step', [one, state, activators, signals], [0, 513]
+        rows = b'0' * 125
+        for pendings, activators, signals in ((rows, rows, b'0' * 32), (b'1' * 125, b'1' * 125, b'1' * 32), (rows, b'1' * 125, b'0' * 32),
+                                              (rows, rows, b'0' * 31), (rows, rows[1:], b'0' * 32), (b'2' + rows[1:], rows, b'0' * 32)):
+            yield 'step', [one, pendings, activators, signals], [0, 384]
         for two in takes:
             for name in ('judge', 'judge_looped', 'judge_open', 'sheet_length'):
                 yield name, [one, two], [0]
@@ -188,10 +182,6 @@ def calls(folder):
         yield 'read_sheet', [one], [0]
         for two in (looped, opened):
             yield 'check_sheet', [rule, two, one], [0]
-    places = [(1, 256), *((line, place) for line in (2, 60, 125) for place in (1, 2, 128))]
-    for one in (back_sheet, *(turned(back_sheet, line, place) for line, place in places)):
-        for two in (back_looped, back_opened, looped):
-            yield 'check_sheet', [back, two, one], [0]
     for one in rules:
         for two in (looped, opened, b''):
             yield 'check_sheet', [one, two, sheet], [0]
@@ -200,7 +190,7 @@ def calls(folder):
     for one in [*damaged(circuit), *longest]:
         for digits in ((inputs, latches), (inputs[1:], latches), (inputs, latches[1:]), (b'2' + inputs[1:], latches), (b'1', b''),
                        (b'', b'')):
-            yield 'simulate', [one, *digits], [0, 626, 33000]
+            yield 'simulate', [one, *digits], [0, 500, 33000]
     for run in runs:
         for one in changed(run):
             yield 'run_verdict', [one], [0]

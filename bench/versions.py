@@ -5,9 +5,8 @@
     bench/versions.py OTHER       OTHER/libcitronhelm.a is the other version; needs valgrind
 
 Instructions: those of one call, counted by callgrind inside the function. Times: both versions take turns in one process (versions.c);
-the best round and the median one. Where a version refuses the files it is not measured: so it is with rules that look back before 02's
-request 6, and a step had the pendings alone for its state then. A circuit was another; where the answers differ there is no ratio. A
-function that the other version does not have is left out."""
+the best round and the median one. Where a version refuses the files it is not measured. A function that the other version does not have
+is left out."""
 import os
 import re
 import subprocess
@@ -32,21 +31,13 @@ CALLS = [  # function, inputs, bytes lent
     ('judge_looped', ['rule.txt', 'take.txt'], 0),
     ('judge_open', ['rule.txt', 'open.txt'], 0),
     ('judge_text', ['rule.txt', 'take.txt'], 64),
-    ('step', ['rule.txt', 'state', 'activators', 'signals'], 513),
-    ('step', ['rule.txt', 'pendings', 'activators', 'signals'], 513),
+    ('step', ['rule.txt', 'pendings', 'activators', 'signals'], 384),
     ('make_sheet', ['rule.txt', 'take.txt'], 33567),
     ('sheet_length', ['rule.txt', 'take.txt'], 0),
     ('check_sheet', ['rule.txt', 'take.txt', 'sheet.txt'], 0),
     ('run_begin', ['rule.txt'], 1220),
-    ('circuit', ['rule.txt'], 12999),
-    ('simulate', ['circuit.aag', 'inputs', 'latches'], 626),
-    ('read_rule', ['back-rule.txt'], 0),
-    ('judge_looped', ['back-rule.txt', 'back-take.txt'], 0),
-    ('judge_open', ['back-rule.txt', 'back-open.txt'], 0),
-    ('step', ['back-rule.txt', 'back-state', 'back-activators', 'back-signals'], 513),
-    ('make_sheet', ['back-rule.txt', 'back-take.txt'], 33567),
-    ('check_sheet', ['back-rule.txt', 'back-take.txt', 'back-sheet.txt'], 0),
-    ('circuit', ['back-rule.txt'], 12999),
+    ('circuit', ['rule.txt'], 9789),
+    ('simulate', ['circuit.aag', 'inputs', 'latches'], 500),
 ]
 
 
@@ -56,8 +47,9 @@ def said(*words):
 
 def write_inputs(folder):
     said(os.path.join(ROOT, 'target/bench/release/speed'), 'write', folder)
-    with open(os.path.join(folder, 'pendings'), 'w', encoding='ascii') as file:
-        file.write('0' * 125)
+    for name, digits in (('pendings', '0' * 125), ('activators', '1' * 125), ('signals', '01' * 16)):
+        with open(os.path.join(folder, name), 'w', encoding='ascii') as file:
+            file.write(digits)
 
 
 def renamed(other, folder):
@@ -103,8 +95,7 @@ def measured(program, folder, function, inputs, lent):
             for answer, count, both in zip(answers, counts, times)]
     ratios = ['', '']
     if not any(answer >> 63 for answer in answers):
-        assert answers[0] == answers[1] or function == 'circuit', (function, inputs, answers)
-    if answers[0] == answers[1] and not answers[0] >> 63:
+        assert answers[0] == answers[1], (function, inputs, answers)
         ratios = [f'{counts[0] / counts[1]:.4f}', '; '.join(f'{mine / others:.3f}' for mine, others in zip(*times))]
     return [told[1][0], told[0][0], ratios[0], told[1][1], told[0][1], ratios[1]]
 

@@ -16,8 +16,7 @@ ROOT = pathlib.Path(__file__).resolve().parent.parent
 CASES = ROOT / "crates/try_services"
 DATA = CASES / "data"
 LONGEST = 1024
-BACK = ["before 1", "wbefore 1", "once 2", "sofar 1", "since 1 2", "trigger 2 1"]
-ROWS = ["not 1", "and 1 2", "or 1 2", "next 1", "always 1", "ever 1", "weak 1 2", "until 1 2", "release 2 1", "srelease 2 1", *BACK]
+ROWS = ["not 1", "and 1 2", "or 1 2", "next 1", "always 1", "ever 1", "weak 1 2", "until 1 2", "release 2 1", "srelease 2 1"]
 # a toggle flip-flop with enable and reset, its gates from the last to the first
 FALLING = b"aag 7 2 1 2 4\n2\n4\n6 14\n6\n7\n14 4 12\n12 9 11\n10 3 7\n8 2 6\n"
 
@@ -76,13 +75,10 @@ def long_pairs():
 
 
 def nested_pairs():
-    """Chains of rows that look ahead, or back, on loops: whoever works out truth in rounds of the loop needs the more, the longer a chain
-    is, and where rows look back as many rounds are written out. Each rule always holds, so that the sheet made shows the truth of all
-    rows."""
+    """Chains of rows that look ahead, on loops: whoever works out truth in rounds of the loop needs the more, the longer a chain is. Each
+    rule always holds, so that the sheet made shows the truth of all rows."""
     chains = [["next {}"], ["always {}"], ["ever {}"], ["always {}", "ever {}"], ["next {}", "ever {}"]]
     chains += [["until {} 1", "release 1 {}"], ["weak 1 {}", "srelease {} 1"], ["until {0} {0}", "next {}"]]
-    chains += [["before {}"], ["wbefore {}"], ["once {}", "sofar {}"], ["since {} 1", "trigger 1 {}"], ["since 1 {}", "next {}"]]
-    chains += [["once {}", "always {}"], ["before {}", "ever {}"], ["trigger {} 1", "until {} 1", "wbefore {}"]]
     for words in chains:
         for length in (2, 3, 9, 30):
             rows = ["sig 1", *(words[n % len(words)].format(n) for n in range(1, length + 1))]
@@ -92,39 +88,6 @@ def nested_pairs():
             for digits, loop in (("1", 0), ("10", 0), ("01", 1), ("01101", 2)):
                 cycles = "".join(f"c{n}={digit}\n" for n, digit in enumerate(digits))
                 yield [rule.encode(), f"format=1\nsignals=1\ncycles={len(digits)}\nloop={loop}\n{cycles}".encode()]
-
-
-def written_out():
-    """Rules that look back on looped takes with their sheets, by hand, of the cycles that are covered; takes that are as long as they may
-    be for such a rule, and longer; and the same open."""
-    first = b"format=1\nsignals=1\nrows=2\nr1=sig 1\nr2=wbefore 1\n"
-    thrice = b"format=1\nsignals=1\nrows=5\nr1=sig 1\nr2=before 1\nr3=before 2\nr4=before 3\nr5=ever 4\n"
-    once = b"format=1\nsignals=1\nrows=2\nr1=sig 1\nr2=once 1\n"
-
-    def take(cycles, loop, digit="1"):
-        lines = "".join(f"c{n}={digit}\n" for n in range(cycles))
-        return f"format=1\nsignals=1\ncycles={cycles}\nloop={loop}\n{lines}".encode()
-
-    def sheet(*rows):
-        lines = "".join(f"z{n}={row}\n" for n, row in enumerate(rows, 1))
-        return f"format=1\nrows={len(rows)}\ncycles={len(rows[0])}\n{lines}".encode()
-
-    for rows in (("00", "10"), ("00", "11"), ("00", "01"), ("0", "1"), ("000", "100")):
-        yield [first, take(1, 0, "0"), sheet(*rows)]
-    for last in ("0001", "0010", "0000"):
-        yield [thrice, take(1, 0), sheet("1111", "0111", "0011", last, "1000")]
-    for cycles, loop in ((128, 0), (129, 0), (129, 2), (129, 1), (255, 254), (256, 255), (256, "none")):
-        yield [once, take(cycles, loop), sheet("1" * 256, "1" * 256)]
-
-
-def steps(rule, rules):
-    """Rule A's step, other rules with its digits, and a rule for each row with operands, seven rows in normal form: from a fresh state and
-    from others, with the mark and without."""
-    yield from ([other, b"00000000001", b"11111", b"10"] for other in [rule, *rules])
-    for row in ROWS[1:]:
-        shown = f"format=1\nsignals=2\nrows=7\nr1=sig 1\nr2=sig 2\nr3={row}\nr4=true\nr5=or 3 4\nr6=or 1 2\nr7=and 5 6\n".encode()
-        for bits, mark in ((b"0", b"1"), (b"0", b"0"), (b"1", b"0"), (b"1", b"1")):
-            yield from ([shown, bits * 14 + mark, activators, b"10"] for activators in (b"0010000", b"1110101", b"0110101", b"1010101"))
 
 
 def limits():
@@ -223,14 +186,13 @@ def seeds():
         yield kind, [*files, *long, *map(padded, small(files)), *zeros(file)]
     rules, takes, sheets = small(rules), small(takes), small(sheets)
     pairs = [*examples("rule.txt", "take.txt"), *([other, take] for other in rules), *([rule, other] for other in takes)]
-    pairs += [*long_pairs(), *digit_more(), *(triple[:2] for triple in [*limits(), *written_out()])]
-    pairs += all_padded(examples("rule.txt", "take.txt"))
+    pairs += [*long_pairs(), *digit_more(), *(triple[:2] for triple in limits()), *all_padded(examples("rule.txt", "take.txt"))]
     yield "judge", [join(*pair) for pair in [*pairs, *nested_pairs(), [rule, take.ljust(65_537, b"\n")]]]
     whole = [*examples("rule.txt", "take.txt", "sheet.txt"), [rule, take, sheet]]
-    triples = [[*pair, sheet] for pair in pairs] + [[rule, take, other] for other in sheets] + [*limits(), *written_out()]
+    triples = [[*pair, sheet] for pair in pairs] + [[rule, take, other] for other in sheets] + list(limits())
     yield "check", [join(*triple) for triple in [*whole, *triples, *all_padded(whole)]]
     rules += [padded(rule)]
-    yield "step", [join(*parts) for parts in steps(rule, rules)]
+    yield "step", [join(other, b"00000", b"11111", b"10") for other in rules]
     yield "run", [join(*run) for run in runs(rule, rules)]
     small_ones = [(DATA / f"circuit-{name}").read_bytes() for name in ("or", "toggle", "later-gate-first", "inputs-above-gates")]
     changed = [file for circuit in small_ones for file in (*literals(circuit), *zeros(circuit))]

@@ -28,20 +28,14 @@
  *    6  the loop's cycle is not below `cycles`
  *    7  rule and take differ in `signals`; in citronhelm_simulate, the number of inputs is not the circuit's
  *    8  a looped service has an open take, or an open service a looped one
- *    9  the sheet's rows or cycles differ from the normal form's or those of the take written out; in citronhelm_simulate, the number of
- *       latches is not the circuit's
+ *    9  the sheet's rows or cycles differ from the normal form's or the take's; in citronhelm_simulate, the number of latches is not the
+ *       circuit's
  *   10  the output is shorter than what is to be written
  *   11  a run has 256 cycles already, and one more is handed over
- *   12  the take written out has more than 256 cycles
- * File: 1 rule, 2 take, 3 sheet; 1 circuit in citronhelm_simulate. Line: from 1; 0 for refusal 1. File and line are 0 for 7 to 12, for a
+ * File: 1 rule, 2 take, 3 sheet; 1 circuit in citronhelm_simulate. Line: from 1; 0 for refusal 1. File and line are 0 for 7 to 11, for a
  * 2 of citronhelm_step or citronhelm_simulate that is not the file's (by that it is told from one that is), and for every refusal of
  * citronhelm_run_cycle and citronhelm_run_verdict.
- * Files are read in the order rule, take, sheet; the first fault is the one that is told. Then come 7, 8, 12, 9 and 10.
- *
- * The take written out: a rule may have rows that look back (`before`, `wbefore`, `once`, `sofar`, `since`, `trigger`), whose truth on a
- * looped take need not repeat from its first round on. Where d is the most of them on one branch of the normal form, d rounds of the loop
- * are written out before it: n cycles with a loop at l become n + d * (n - l) with a loop at l + d * (n - l). Sheets for such a rule cover
- * these cycles. An open take, and one for a rule without such rows, is as it is.
+ * Files are read in the order rule, take, sheet; the first fault is the one that is told.
  */
 #ifndef CITRONHELM_H
 #define CITRONHELM_H
@@ -56,9 +50,9 @@ extern "C" {
 /* How long an output has to be at most. */
 #define CITRONHELM_MOST_TEXT 64u        /* citronhelm_judge_text */
 #define CITRONHELM_MOST_NORMAL 2845u    /* citronhelm_normal */
-#define CITRONHELM_MOST_STEP 513u       /* citronhelm_step */
+#define CITRONHELM_MOST_STEP 384u       /* citronhelm_step */
 #define CITRONHELM_MOST_SHEET 33567u    /* citronhelm_make_sheet */
-#define CITRONHELM_MOST_CIRCUIT 12999u  /* citronhelm_circuit */
+#define CITRONHELM_MOST_CIRCUIT 9789u   /* citronhelm_circuit */
 #define CITRONHELM_MOST_SIMULATE 32768u /* citronhelm_simulate, on any circuit */
 
 /* How many bytes a run has. */
@@ -76,18 +70,18 @@ extern "C" {
 #define CITRONHELM_STACK_ROWS 4096u
 #define CITRONHELM_STACK_NORMAL_LENGTH 5120u
 #define CITRONHELM_STACK_NORMAL 7168u
-#define CITRONHELM_STACK_JUDGE 43008u
-#define CITRONHELM_STACK_JUDGE_LOOPED 43008u
-#define CITRONHELM_STACK_JUDGE_OPEN 43008u
-#define CITRONHELM_STACK_JUDGE_TEXT 41984u
+#define CITRONHELM_STACK_JUDGE 37888u
+#define CITRONHELM_STACK_JUDGE_LOOPED 37888u
+#define CITRONHELM_STACK_JUDGE_OPEN 37888u
+#define CITRONHELM_STACK_JUDGE_TEXT 35840u
 #define CITRONHELM_STACK_STEP 4096u
-#define CITRONHELM_STACK_SHEET_LENGTH 41984u
-#define CITRONHELM_STACK_MAKE_SHEET 41984u
-#define CITRONHELM_STACK_CHECK_SHEET 26624u
-#define CITRONHELM_STACK_RUN_BEGIN 6144u
+#define CITRONHELM_STACK_SHEET_LENGTH 37888u
+#define CITRONHELM_STACK_MAKE_SHEET 37888u
+#define CITRONHELM_STACK_CHECK_SHEET 25600u
+#define CITRONHELM_STACK_RUN_BEGIN 5120u
 #define CITRONHELM_STACK_RUN_CYCLE 10240u
-#define CITRONHELM_STACK_RUN_VERDICT 44032u
-#define CITRONHELM_STACK_CIRCUIT 20480u
+#define CITRONHELM_STACK_RUN_VERDICT 38912u
+#define CITRONHELM_STACK_CIRCUIT 16384u
 #define CITRONHELM_STACK_SIMULATE 313344u
 
 /* Whether an answer is a refusal; its number, file and line. */
@@ -104,7 +98,7 @@ uint64_t citronhelm_read_sheet(const uint8_t *sheet, size_t sheet_length);
 /* A bound on the length of a rule's normal form as a file: 29 + 44 * (rows of the rule), never less than its length. */
 uint64_t citronhelm_bound(const uint8_t *rule, size_t rule_length);
 
-/* The number of rows in a rule's normal form, 1 to 128: that of the activators of citronhelm_step, and of a sheet's rows. */
+/* The number of rows in a rule's normal form, 1 to 128: that of the pendings and activators of citronhelm_step, and of a sheet's rows. */
 uint64_t citronhelm_rows(const uint8_t *rule, size_t rule_length);
 
 /*
@@ -128,59 +122,52 @@ enum citronhelm_verdict {
     CITRONHELM_BROKEN = 4, /* open: it shows that none does */
     CITRONHELM_OPEN = 5    /* open: neither */
 };
-/*
- * A take of either kind; a looped one, an open one being refused with 8; an open one, a looped one being refused with 8. Looped ones are
- * refused with 12 where they are too long written out.
- */
+/* A take of either kind; a looped one, an open one being refused with 8; an open one, a looped one being refused with 8. */
 uint64_t citronhelm_judge(const uint8_t *rule, size_t rule_length, const uint8_t *take, size_t take_length);
 uint64_t citronhelm_judge_looped(const uint8_t *rule, size_t rule_length, const uint8_t *take, size_t take_length);
 uint64_t citronhelm_judge_open(const uint8_t *rule, size_t rule_length, const uint8_t *take, size_t take_length);
 
 /*
  * Writes what the program `judge` prints for the two files: five lines with the verdict, or the three lines of a refusal. It is a
- * print-out and no service: files that are refused are answered too, and the output then has the refusal's lines. Cycles and loop
- * are the take's own. Answers the text's length; refused with 10 only. At most CITRONHELM_MOST_TEXT bytes.
+ * print-out and no service: files that are refused are answered too, and the output then has the refusal's lines. Answers the
+ * text's length; refused with 10 only. At most CITRONHELM_MOST_TEXT bytes.
  */
 uint64_t citronhelm_judge_text(
     const uint8_t *rule, size_t rule_length, const uint8_t *take, size_t take_length, uint8_t *output, size_t output_length);
 
 /*
- * One cycle of a rule's monitors. All inputs behind the rule are digits, the bytes '0' and '1': the state, each normal-form row's
- * activator, each signal. With n = citronhelm_rows the state has 2 * n + 1 digits, for every rule: each row's pending, then each row's
- * second bit, then the mark of the first cycle. Before the first cycle all are '0' but the mark, which is '1'. Second bits are what rows
- * that look back keep: the operand's activator (`before`, `wbefore`) or the row's meaning (the others). Any state is taken as given; second
- * bits are read only where the mark is '0'. Writes the digits of failed, then accept, then pending, then second bits, each by row, then the
- * mark, '0', and answers their number, 4 * n + 1: the state for the next call are the last 2 * n + 1.
- * Refusals behind the rule's own: 2 (another byte than '0' or '1'), 7 (number of signals), 9 (number of digits of the state, or of
- * activators), 10.
+ * One cycle of a rule's monitors. All inputs behind the rule are digits, the bytes '0' and '1': each normal-form row's pending one
+ * cycle earlier (all '0' before the first cycle), each row's activator, each signal. Writes the digits of failed, then accept, then
+ * pending, each by row, and answers their number, 3 * citronhelm_rows: the pendings for the next call are the last third.
+ * Refusals behind the rule's own: 2 (another byte than '0' or '1'), 7 (number of signals), 9 (number of pendings or activators), 10.
  */
 uint64_t citronhelm_step(
-    const uint8_t *rule, size_t rule_length, const uint8_t *state, size_t state_length, const uint8_t *activators,
+    const uint8_t *rule, size_t rule_length, const uint8_t *pendings, size_t pendings_length, const uint8_t *activators,
     size_t activators_length, const uint8_t *signals, size_t signals_length, uint8_t *output, size_t output_length);
 
 /*
- * The same with one buffer that is kept from call to call: 4 * rows + 1 digits, before the first cycle all '0' but the last, which is '1';
- * rows is what citronhelm_rows answers. Their last 2 * rows + 1 are the state. Answers and leaves what citronhelm_step does with a copy of
- * these for `state` and with all the digits for `output`; so a refused call changes nothing, and can be followed by another. The copy takes
- * 257 bytes of stack beside CITRONHELM_STACK_STEP.
+ * The same with one buffer that is kept from call to call: 3 * rows digits, all '0' before the first cycle, where rows is what
+ * citronhelm_rows answers. Their last third are the pendings. Answers and leaves what citronhelm_step does with a copy of these for
+ * `pendings` and with all the digits for `output`; so a refused call changes nothing, and can be followed by another. The copy takes
+ * 128 bytes of stack beside CITRONHELM_STACK_STEP.
  *
- * For this the state is copied first. To hand citronhelm_step the end of its own output for `state` is against what is presumed above, and
- * no proof covers it. As the library is compiled today each digit of the state is read before it is written, and all is as with a
- * copy; a later library may do something else.
+ * For this the pendings are copied first. To hand citronhelm_step the last third of its own output for `pendings` is against what is
+ * presumed above, and no proof covers it. As the library is compiled today each row's pending is read before it is written, and
+ * all is as with a copy; a later library may do something else.
  */
 static inline uint64_t citronhelm_step_in_place(
     const uint8_t *rule, size_t rule_length, const uint8_t *activators, size_t activators_length, const uint8_t *signals,
     size_t signals_length, uint8_t *digits, size_t rows)
 {
-    uint8_t state[CITRONHELM_MOST_STEP / 2 + 1];
+    uint8_t pendings[CITRONHELM_MOST_STEP / 3];
     size_t k;
-    if (rows > sizeof state / 2) /* no rule has so many: refused, at the latest with 9, before an output is looked at */
+    if (rows > sizeof pendings) /* no rule has so many: refused, at the latest with 9, before an output is looked at */
         return citronhelm_step(
-            rule, rule_length, digits + 2 * rows, 2 * rows + 1, activators, activators_length, signals, signals_length, NULL, 0);
-    for (k = 0; k < 2 * rows + 1; k++)
-        state[k] = digits[2 * rows + k];
+            rule, rule_length, digits + 2 * rows, rows, activators, activators_length, signals, signals_length, NULL, 0);
+    for (k = 0; k < rows; k++)
+        pendings[k] = digits[2 * rows + k];
     return citronhelm_step(
-        rule, rule_length, state, 2 * rows + 1, activators, activators_length, signals, signals_length, digits, 4 * rows + 1);
+        rule, rule_length, pendings, rows, activators, activators_length, signals, signals_length, digits, 3 * rows);
 }
 
 /*
@@ -192,16 +179,15 @@ uint64_t citronhelm_sheet_length(const uint8_t *rule, size_t rule_length, const 
 
 /*
  * Writes the activator sheet of a rule and a take as a sheet file: a 1 where the row of the normal form is true at that cycle
- * (strongly, for an open take). Its cycles are those of the take written out. Answers its length, or 0 (`none`; nothing is written, any
- * output does) where the rule does not hold or is not kept: that of citronhelm_sheet_length. At most CITRONHELM_MOST_SHEET bytes. Refused
- * with 12 also where there would be none.
+ * (strongly, for an open take). Answers its length, or 0 (`none`; nothing is written, any output does) where the rule does not hold
+ * or is not kept: that of citronhelm_sheet_length. At most CITRONHELM_MOST_SHEET bytes.
  */
 uint64_t citronhelm_make_sheet(
     const uint8_t *rule, size_t rule_length, const uint8_t *take, size_t take_length, uint8_t *output, size_t output_length);
 
 /*
- * What a check of a sheet finds, which has the cycles of the take written out. citronhelm_finding takes it from an answer, citronhelm_row
- * the row, from 1 (failed, starved, pending), citronhelm_cycle the cycle, from 0 (failed).
+ * What a check of a sheet finds. citronhelm_finding takes it from an answer, citronhelm_row the row, from 1 (failed, starved, pending),
+ * citronhelm_cycle the cycle, from 0 (failed).
  */
 enum citronhelm_found {
     CITRONHELM_ROOT = 1,    /* the root is not active in cycle 0 */
@@ -247,12 +233,10 @@ uint64_t citronhelm_run_verdict(const uint8_t *run, size_t run_length);
 
 /*
  * Writes a rule's monitors as a circuit, an ASCII AIGER file (docs/CIRCUIT.md says which gates and literals it has). Its inputs are the
- * signals, then each normal-form row's activator; its latches are each row's pending one cycle earlier, then each row's second bit, then
- * the mark of the first cycle negated; its outputs are failed, then accept, then pending, each by row. Answers its length; at most
- * CITRONHELM_MOST_CIRCUIT bytes. Refusals behind the rule's own: 10.
+ * signals, then each normal-form row's activator; there is one latch for each row, its pending one cycle earlier; its outputs are failed,
+ * then accept, then pending, each by row. Answers its length; at most CITRONHELM_MOST_CIRCUIT bytes. Refusals behind the rule's own: 10.
  *
- * Simulated from latches at '0', its outputs are in each cycle the digits of failed, accept and pending that citronhelm_step gives from a
- * fresh start.
+ * Simulated from latches at '0', its outputs are in each cycle the digits that citronhelm_step gives from a fresh start.
  */
 uint64_t citronhelm_circuit(const uint8_t *rule, size_t rule_length, uint8_t *output, size_t output_length);
 

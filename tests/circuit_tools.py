@@ -22,8 +22,8 @@ import tempfile
 
 HERE = os.path.join(os.path.dirname(os.path.abspath(__file__)), '..')
 LEAVES = ('true', 'false', 'sig', 'nsig')
-ONE = ('not', 'next', 'always', 'ever', 'before', 'wbefore', 'once', 'sofar')
-TWO = ('and', 'or', 'weak', 'until', 'release', 'srelease', 'since', 'trigger')
+ONE = ('not', 'next', 'always', 'ever')
+TWO = ('and', 'or', 'weak', 'until', 'release', 'srelease')
 
 
 class Library:
@@ -107,7 +107,7 @@ def run(*words, folder):
 
 def tried(library, folder, name, rule, cycles, dice):
     """What is wrong with one rule's circuit under the tools."""
-    answer, circuit = library.call('circuit', rule, room=12999)
+    answer, circuit = library.call('circuit', rule, room=9789)
     if answer >> 63:
         return [f'citronhelm_circuit refuses with {answer & 255}']
     rows, _ = library.call('rows', rule)
@@ -121,7 +121,7 @@ def tried(library, folder, name, rule, cycles, dice):
         return [f'yosys does not read the file: {fault}']
     _, said = run('berkeley-abc', '-q', f'read_aiger {name}.aig; print_stats', folder=folder)
     counts = re.search(r'i/o *= *(\d+)/ *(\d+) *lat *= *(\d+)', said)
-    if not counts or [int(n) for n in counts.groups()] != [signals + rows, 3 * rows, 2 * rows + 1]:
+    if not counts or [int(n) for n in counts.groups()] != [signals + rows, 3 * rows, rows]:
         faults.append(f'berkeley-abc says {said!r}')
     given = [''.join(dice.choice('01') for _ in range(signals + rows)) for _ in range(cycles)]
     with open(os.path.join(folder, f'{name}.in'), 'w') as f:
@@ -134,17 +134,15 @@ def tried(library, folder, name, rule, cycles, dice):
     if fault:
         return faults + [f'Icarus Verilog does not compile it: {fault}']
     _, said = run('vvp', '-n', f'{name}.vvp', folder=folder)
-    state, latches = b'0' * (2 * rows) + b'1', b'0' * (2 * rows + 1)
+    pendings = latches = b'0' * rows
     seen = said.split()
     for k, line in enumerate(given):
         inputs = line.encode()
-        _, step = library.call('step', rule, state, inputs[signals:], inputs[:signals], room=513)
-        _, cycle = library.call('simulate', circuit, inputs, latches, room=5 * rows + 1)
-        outputs, state = step[:3 * rows], step[2 * rows:]
-        # the last latch is the mark negated, and the mark is off behind every cycle
-        if len(seen) <= k or seen[k].encode() != outputs or cycle != outputs + state[:-1] + b'1' or state[-1:] != b'0':
+        _, step = library.call('step', rule, pendings, inputs[signals:], inputs[:signals], room=384)
+        _, cycle = library.call('simulate', circuit, inputs, latches, room=4 * rows)
+        if len(seen) <= k or seen[k].encode() != step or cycle != step + step[2 * rows:]:
             return faults + [f'cycle {k}: step {step}, simulate {cycle}, Icarus Verilog {seen[k:k + 1]}']
-        latches = cycle[3 * rows:]
+        pendings, latches = step[2 * rows:], cycle[3 * rows:]
     return faults
 
 

@@ -15,7 +15,7 @@ HERE = os.path.join(os.path.dirname(os.path.abspath(__file__)), '..', 'crates', 
 def made():
     """All cases and their files, by path, and what is printed."""
     suite.build()
-    for module in ('reading', 'normal', 'judge', 'sheet', 'past', 'step', 'circuit', 'watch', 'padding', 'written_out'):
+    for module in ('reading', 'normal', 'judge', 'sheet', 'step', 'circuit', 'watch', 'padding', 'written_out'):
         __import__(f'{module}_cases')
     printed, rest = {}, suite.ask_all(suite.cases)
     lines = list(suite.cases)

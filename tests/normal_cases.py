@@ -10,11 +10,11 @@ def length(service, name):
     return int(value(ask(f'{service} {name} 4096'), 'written'))
 
 
-def normal(name, rows, signals=2, by_hand=None, negated_by_hand=None):
-    """The bound, and both normal forms with room behind them, and their lengths; the forms may stand by hand."""
+def normal(name, rows, signals=2, by_hand=None):
+    """The bound, and both normal forms with room behind them, and their lengths; the plain one may stand by hand."""
     name = rule(name, *rows, signals=signals)
     case('bound', name, ends=f'bound={29 + 44 * len(rows)}\n')
-    for service, text in (('normal', by_hand), ('negated', negated_by_hand)):
+    for service, text in (('normal', by_hand), ('negated', None)):
         size = length(service, name)
         case(f'{service}_length', name, ends=f'length={size}\n')
         case(service, name, size + BEHIND, ends=text and text + '.' * BEHIND + '\n')

@@ -107,11 +107,7 @@ for service in ('judge', 'sheet_length', 'sheet'):
         as_unpadded(service, pair)
 for names in ([a, looped, 'sheet-a'], [a, looped, sheet('01 01 00 11 11')], [a, looped, sheet('01 00 11 11 11')], [a, opened, 'sheet-a']):
     as_unpadded('check_sheet', names)
-as_unpadded('step', [a], '00110000001', '01111', '01', 21)
-as_unpadded('normal', ['rule-past-under-not'], 200)
-as_unpadded('judge', ['rule-drawn-again', looped])
-as_unpadded('sheet', ['rule-drawn-again', looped])
-as_unpadded('step', ['rule-drawn-again'], '0000000100000', '111111', '10', 25)
+as_unpadded('step', [a], '00110', '01111', '01', 15)
 as_unpadded('run', [request], '10', '?', '00', '?', '01', '?')
 
 # a padded key behind padded values, where files go together; of several faults the first

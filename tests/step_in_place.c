@@ -1,6 +1,6 @@
 /*
- * Holds citronhelm_step_in_place to citronhelm_step with a copy of the state: answers and all digits, over runs of calls, a part of
- * them refused. Also citronhelm_step with `state` in its own output, of which the header says what it does today. Run by
+ * Holds citronhelm_step_in_place to citronhelm_step with a copy of the pendings: answers and all digits, over runs of calls, a part of
+ * them refused. Also citronhelm_step with `pendings` in its own output, of which the header says what it does today. Run by
  * rust/check.sh.
  */
 #include "citronhelm.h"
@@ -11,12 +11,10 @@
 
 /* More rows than any rule has, to try those too. */
 #define MOST_ROWS 200
-#define MOST_DIGITS (4 * MOST_ROWS + 1)
 
 #define EVERY_OPERATOR \
-    "format=1\nsignals=3\nrows=22\nr1=sig 1\nr2=nsig 2\nr3=sig 3\nr4=and 1 2\nr5=or 2 3\nr6=next 4\nr7=always 5\nr8=ever 3\n" \
-    "r9=weak 4 8\nr10=until 5 6\nr11=release 1 7\nr12=srelease 9 10\nr13=not 12\nr14=or 11 13\nr15=and 12 14\nr16=always 15\n" \
-    "r17=before 16\nr18=wbefore 14\nr19=once 17\nr20=sofar 18\nr21=since 19 20\nr22=trigger 21 13\n"
+    "format=1\nsignals=3\nrows=16\nr1=sig 1\nr2=nsig 2\nr3=sig 3\nr4=and 1 2\nr5=or 2 3\nr6=next 4\nr7=always 5\nr8=ever 3\n" \
+    "r9=weak 4 8\nr10=until 5 6\nr11=release 1 7\nr12=srelease 9 10\nr13=not 12\nr14=or 11 13\nr15=and 12 14\nr16=always 15\n"
 
 static const char *const RULES[] = {
     EVERY_OPERATOR,
@@ -55,33 +53,30 @@ int main(void)
         uint64_t counted = citronhelm_rows(rule, rule_length);
         for (int run = 0; run < 400; run++) {
             size_t rows = run % 40 == 39 ? 120 + random_below(MOST_ROWS - 120) : about(citronhelm_refused(counted) ? 1 : counted);
-            size_t digits = 4 * rows + 1;
-            uint8_t kept[MOST_DIGITS], over[MOST_DIGITS], copied[MOST_DIGITS];
+            uint8_t kept[3 * MOST_ROWS], over[3 * MOST_ROWS], copied[3 * MOST_ROWS];
             memset(kept, '0', sizeof kept);
-            kept[digits - 1] = '1';
             if (run % 5 == 4)
-                fill(kept, digits);
+                fill(kept, 3 * rows);
             memcpy(over, kept, sizeof kept);
             memcpy(copied, kept, sizeof kept);
             for (int call = 0; call < 50; call++) {
-                uint8_t activators[MOST_ROWS + 2], signals[8], state[2 * MOST_ROWS + 1];
+                uint8_t activators[MOST_ROWS + 2], signals[8], pendings[MOST_ROWS];
                 size_t activators_length = about(rows), signals_length = about((size_t)(rule[17] - '0'));
                 fill(activators, activators_length);
                 fill(signals, signals_length);
-                memcpy(state, copied + 2 * rows, 2 * rows + 1);
+                memcpy(pendings, copied + 2 * rows, rows);
                 uint64_t expected = citronhelm_step(
-                    rule, rule_length, state, 2 * rows + 1, activators, activators_length, signals, signals_length, copied, digits);
+                    rule, rule_length, pendings, rows, activators, activators_length, signals, signals_length, copied, 3 * rows);
                 uint64_t in_place = citronhelm_step_in_place(
                     rule, rule_length, activators, activators_length, signals, signals_length, kept, rows);
                 uint64_t lying_over = citronhelm_step(
-                    rule, rule_length, over + 2 * rows, 2 * rows + 1, activators, activators_length, signals, signals_length,
-                    over, digits);
+                    rule, rule_length, over + 2 * rows, rows, activators, activators_length, signals, signals_length, over, 3 * rows);
                 if (in_place != expected || memcmp(kept, copied, sizeof kept) != 0) {
                     fprintf(stderr, "rule %zu, run %d, call %d: citronhelm_step_in_place differs\n", which, run, call);
                     return 1;
                 }
                 if (lying_over != expected || memcmp(over, copied, sizeof over) != 0) {
-                    fprintf(stderr, "rule %zu, run %d, call %d: a state in the output is not as a copy\n", which, run, call);
+                    fprintf(stderr, "rule %zu, run %d, call %d: pendings in the output give something else than a copy\n", which, run, call);
                     return 1;
                 }
                 if (citronhelm_refused(expected))

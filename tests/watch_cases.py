@@ -2,7 +2,6 @@
 here by hand, and so do the verdicts but those on every take of two cycles."""
 import itertools
 
-from past_cases import PAST
 from sheet_cases import KINDS
 from suite import case, refusal
 
@@ -36,7 +35,7 @@ def times(count, word):
 
 
 # each kind and its negation on every take of two cycles, called on before the first and behind each
-for name in [f'rule-{sign}{word}' for word in [*KINDS, 'not', *PAST] for sign in ('', 'not-')]:
+for name in [f'rule-{sign}{word}' for word in [*KINDS, 'not'] for sign in ('', 'not-')]:
     for first, second in itertools.product(('00', '01', '10', '11'), repeat=2):
         case('run', name, '?', first, '?', second, '?', right=lambda text: text.startswith(f'ok\n{said("4")}ok\n') and decided(text))
 
@@ -49,17 +48,6 @@ run('rule-weak', '10:ok 10:ok ?:open 11:ok ?:kept')
 run(a, '10:ok ?:open 01:ok ?:open 10:ok ?:open')
 run('rule-always-true', '0:ok ?:open 1:ok ?:open')
 run('rule-false', '00:ok ?:broken 11:ok ?:broken')
-
-# rules that look back: a run is an open take, of which nothing is written out, up to its last cycle
-run('rule-before', '10:ok ?:broken 11:ok ?:broken')
-run('rule-wbefore', '?:4 00:ok ?:kept 00:ok ?:kept')
-run('rule-next-once', '01:ok ?:open 10:ok ?:open 00:ok ?:kept')
-run('rule-next-once', '00:ok 00:ok ?:open 00:ok ?:broken 10:ok ?:broken')
-run('rule-drawn', '00:ok ?:open 10:ok 01:ok ?:open')
-run('rule-drawn', '00:ok ?:open 01:ok ?:broken 10:ok ?:broken')
-run('rule-drawn-again', '10:ok 01:ok ?:open 00:ok ?:open 01:ok ?:broken')
-run('rule-ever-since', times(255, '10:ok'), '?:open 11:ok ?:kept 10:11 ?:kept')
-run('rule-always-sofar', times(129, '10:ok'), '?:open 00:ok ?:broken')
 
 # refused cycles are none: other bytes before a wrong number of digits, and nothing is a wrong number
 run(request, '10:ok 2:2 1x1:2 -1:2 12:2 1:7 101:7 :7 ?:open 0/:2 :7 00:ok ?:broken')

@@ -1,6 +1,5 @@
 // Truth of the rows of a normal form on a looped take once more, by the library's schedule: cycle by cycle from the last, all rows at each,
-// in rounds of the loop; rows that look back before each round, from the first cycle on. The services use `truth.rs`; this is measured
-// beside the library's own way.
+// in rounds of the loop. The services use `truth.rs`; this is measured beside the library's own way.
 use crate::judging::Verdict;
 use crate::reading::Refusal;
 use crate::rule::{normal, Kind, Row};
@@ -16,8 +15,8 @@ fn endless(kind: Kind) -> Option<bool> {
     }
 }
 
-/// All rows at a cycle, from its signals, from the rows that look back as they were filled forward, and from the rows one cycle on.
-fn fill(rows: &[Row], take: &Take, cycle: usize, past: &[bool], after: &[bool], now: &mut [bool]) {
+/// All rows at a cycle, from its signals and from the rows one cycle on.
+fn fill(rows: &[Row], take: &Take, cycle: usize, after: &[bool], now: &mut [bool]) {
     for (k, row) in rows.iter().enumerate() {
         let a = || now[row.n[0] - 1];
         let b = || now[row.n[1] - 1];
@@ -34,39 +33,19 @@ fn fill(rows: &[Row], take: &Take, cycle: usize, past: &[bool], after: &[bool], 
             Kind::Ever => a() || after[k],
             Kind::Until | Kind::Weak => b() || a() && after[k],
             Kind::Srelease | Kind::Release => b() && (a() || after[k]),
-            _ => past[k * take.cycles + cycle],
         };
     }
 }
 
 /// Fills these cycles from the last to the first. `column` has the rows one cycle behind them, and then those at the first.
-fn go_back(rows: &[Row], take: &Take, cycles: Range<usize>, past: &[bool], column: &mut Vec<bool>, table: &mut [bool]) {
+fn go_back(rows: &[Row], take: &Take, cycles: Range<usize>, column: &mut Vec<bool>, table: &mut [bool]) {
     let mut now = vec![false; rows.len()];
     for i in cycles.rev() {
-        fill(rows, take, i, past, column, &mut now);
+        fill(rows, take, i, column, &mut now);
         for (line, &value) in table.chunks_exact_mut(take.cycles).zip(&now) {
             line[i] = value;
         }
         std::mem::swap(column, &mut now);
-    }
-}
-
-/// Fills the rows that look back from the first cycle to the last, each from the rows as they stand in `table`.
-fn go_forward(rows: &[Row], cycles: usize, table: &[bool], past: &mut [bool]) {
-    for (k, row) in rows.iter().enumerate().filter(|(_, row)| row.kind.looks_back()) {
-        let at = |operand: usize, i: usize| table[(row.n[operand] - 1) * cycles + i];
-        let mut before = matches!(row.kind, Kind::Wbefore | Kind::Sofar | Kind::Trigger);
-        for i in 0..cycles {
-            before = match row.kind {
-                Kind::Before | Kind::Wbefore if i == 0 => before,
-                Kind::Before | Kind::Wbefore => at(0, i - 1),
-                Kind::Once => at(0, i) || before,
-                Kind::Sofar => at(0, i) && before,
-                Kind::Since => at(1, i) || at(0, i) && before,
-                _ => at(1, i) && (at(0, i) || before),
-            };
-            past[k * cycles + i] = before;
-        }
     }
 }
 
@@ -86,50 +65,39 @@ fn start(rows: &[Row], sure: &[bool], column: &mut [bool]) {
 }
 
 /// Which rows are sure behind a round: those whose operands are, and for which the round has left at the loop's cycle what it has read
-/// behind the last one. A temporal row reads itself there, `next` its operand. A row that looks back was filled before the round, so its
-/// operands must have been sure by then.
-fn survey(rows: &[Row], before: &[bool], behind: &[bool], left: &[bool]) -> Vec<bool> {
+/// behind the last one. A temporal row reads itself there, `next` its operand.
+fn survey(rows: &[Row], behind: &[bool], left: &[bool]) -> Vec<bool> {
     let same = |n: usize| behind[n - 1] == left[n - 1];
     let mut sure = Vec::with_capacity(rows.len());
     for (own, row) in (1..).zip(rows) {
-        let is_sure = match row.kind {
-            kind if kind.looks_back() => operands_are(before, row),
-            Kind::Next => same(row.n[0]) && operands_are(&sure, row),
-            kind => (endless(kind).is_none() || same(own)) && operands_are(&sure, row),
+        let stays = match row.kind {
+            Kind::Next => same(row.n[0]),
+            kind => endless(kind).is_none() || same(own),
         };
-        sure.push(is_sure);
+        sure.push(stays && operands_are(&sure, row));
     }
     sure
 }
 
-/// Whether each row is true at each cycle of the endless repetition of a looped take, which covers the rows, a line of cycles for each row,
-/// one behind the other; and in how many rounds.
+/// Whether each row is true at each cycle of the endless repetition of a looped take, a line of cycles for each row, one behind the other;
+/// and in how many rounds.
 pub fn truths(rows: &[Row], take: &Take) -> (Vec<bool>, usize) {
     let first = take.loop_at.expect("the take is looped");
     let mut table = vec![false; rows.len() * take.cycles];
-    let looks_back = rows.iter().any(|row| row.kind.looks_back());
-    let mut past = if looks_back { table.clone() } else { vec![] };
     let mut sure = vec![false; rows.len()];
     let mut column = vec![false; rows.len()];
     // rows that are not temporal start from the loop's cycle, filled once
     start(rows, &sure, &mut column);
-    go_back(rows, take, first..first + 1, &past, &mut column, &mut table);
+    go_back(rows, take, first..first + 1, &mut column, &mut table);
     let mut rounds = 0;
     while !sure.iter().all(|&row| row) {
-        go_forward(rows, take.cycles, &table, &mut past);
         start(rows, &sure, &mut column);
         let behind = column.clone();
-        go_back(rows, take, first..take.cycles, &past, &mut column, &mut table);
-        sure = survey(rows, &sure, &behind, &column);
+        go_back(rows, take, first..take.cycles, &mut column, &mut table);
+        sure = survey(rows, &behind, &column);
         rounds += 1;
-        // rows that look back rest on the stem, so that it is gone over in every round
-        if looks_back {
-            go_back(rows, take, 0..first, &past, &mut column.clone(), &mut table);
-        }
     }
-    if !looks_back {
-        go_back(rows, take, 0..first, &past, &mut column, &mut table);
-    }
+    go_back(rows, take, 0..first, &mut column, &mut table);
     (table, rounds)
 }
 
@@ -140,7 +108,6 @@ pub fn judge_files(rule: &[u8], take: &[u8]) -> Result<Verdict, Refusal> {
         return Err(Refusal { reason: 8, file: 0, line: 0 });
     }
     let rows = normal(&rule.rows, false);
-    let take = take.covering(&rows)?;
     let (table, _) = truths(&rows, &take);
     Ok(if table[(rows.len() - 1) * take.cycles] { Verdict::Holds } else { Verdict::Breaks })
 }
@@ -157,16 +124,14 @@ mod tests {
         let rule = format!("format=1\nsignals=1\nrows={}\n{rule}", rows.len());
         let take = format!("format=1\nsignals=1\ncycles={}\nloop=0\n{take}", cycles.len());
         let (rule, take) = read_pair(rule.as_bytes(), take.as_bytes()).unwrap();
-        let rows = normal(&rule.rows, false);
-        let take = take.covering(&rows).unwrap();
-        (rows, take)
+        (normal(&rule.rows, false), take)
     }
 
     /// An empty table, and the rows at the first cycle, filled once.
     fn entered(rows: &[Row], take: &Take) -> (Vec<bool>, Vec<bool>) {
         let (mut table, mut column) = (vec![false; rows.len() * take.cycles], vec![false; rows.len()]);
         start(rows, &vec![false; rows.len()], &mut column);
-        go_back(rows, take, 0..1, &[], &mut column, &mut table);
+        go_back(rows, take, 0..1, &mut column, &mut table);
         (table, column)
     }
 
@@ -177,8 +142,8 @@ mod tests {
         for _ in 0..2 {
             start(rows, &sure, &mut column);
             let behind = column.clone();
-            go_back(rows, take, 0..take.cycles, &[], &mut column, &mut table);
-            sure = survey(rows, &sure, &behind, &column);
+            go_back(rows, take, 0..take.cycles, &mut column, &mut table);
+            sure = survey(rows, &behind, &column);
         }
         table
     }
@@ -189,7 +154,7 @@ mod tests {
         start(rows, &vec![false; rows.len()], &mut column);
         loop {
             let behind = column.clone();
-            go_back(rows, take, 0..take.cycles, &[], &mut column, &mut table);
+            go_back(rows, take, 0..take.cycles, &mut column, &mut table);
             if column == behind {
                 return table;
             }
@@ -219,20 +184,5 @@ mod tests {
         let (rows, take) = pair(&["sig 1", "next 1", "next 2", "next 3"], &["1"]);
         assert_eq!(truths(&rows, &take), (vec![true; 4], 3));
         assert!(!of_root(&by_two_rounds(&rows, &take), &take), "the verdict");
-    }
-
-    /// A row that looks back is sure one round behind its operand, one over it another round later.
-    #[test]
-    fn rows_that_look_back_wait_for_a_round() {
-        for (rows, cycles, rounds) in [
-            (&["sig 1", "once 1"][..], ["0", "1", "0"], 2),
-            (&["sig 1", "once 1", "before 2"], ["0", "1", "0"], 3),
-            (&["sig 1", "ever 1", "once 2"], ["0", "1", "0"], 3),
-            (&["sig 1", "sofar 1", "ever 2"], ["1", "1", "1"], 3),
-            (&["sig 1", "before 1", "next 2", "since 3 1"], ["1", "1", "1"], 4),
-        ] {
-            let (rows, take) = pair(rows, &cycles);
-            assert_eq!(truths(&rows, &take), (truth::truths(&rows, &take), rounds));
-        }
     }
 }

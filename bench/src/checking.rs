@@ -1,5 +1,5 @@
 // Checking sheets: all monitors run along the take, cycle by cycle.
-use crate::monitors::{monitor, Own};
+use crate::monitors::monitor;
 use crate::reading::Refusal;
 use crate::rule::{normal, read_rule, Row};
 use crate::sheets::{read_sheet, Sheet};
@@ -15,39 +15,33 @@ pub enum Finding {
     Passes,
 }
 
-/// The finding for a sheet that has the rows of this normal form and the cycles of this take, which covers them.
+/// The finding for a sheet that has the rows of this normal form and the cycles of this take.
 pub fn check(rows: &[Row], take: &Take, sheet: &Sheet) -> Finding {
     if !sheet.active(rows.len(), 0) {
         return Finding::Root;
     }
     let mut pending = vec![false; rows.len()];
-    let mut second = vec![false; rows.len()];
-    // the first cycle is another for rows that look back alone
-    let mut first = rows.iter().any(|row| row.kind.looks_back());
     let mut cycle = 0;
     let mut from = 0;
     loop {
-        let before = (pending.clone(), second.clone(), first);
+        let before = pending.clone();
         let mut accepted = vec![false; rows.len()];
         for i in from..take.cycles {
             for (k, row) in rows.iter().enumerate() {
-                let own = Own { z: sheet.active(k + 1, i), y: pending[k], second: second[k], first };
-                let said = monitor(row, own, |m| sheet.active(m, i), |s| take.signal(s, i));
+                let said = monitor(row, sheet.active(k + 1, i), pending[k], |m| sheet.active(m, i), |s| take.signal(s, i));
                 if said.failed {
                     return Finding::Failed { row: k + 1, cycle };
                 }
                 pending[k] = said.pending;
-                second[k] = said.second;
                 accepted[k] |= said.accept;
             }
-            first = false;
             cycle += 1;
         }
         let lowest = |found: &[bool], what: bool| found.iter().position(|&bit| bit == what).map(|k| k + 1);
         match take.loop_at {
             None => return lowest(&pending, true).map_or(Finding::Passes, |row| Finding::Pending { row }),
             // a round that ends as it began is repeated for ever
-            Some(start) if from == start && (&pending, &second, first) == (&before.0, &before.1, before.2) => {
+            Some(start) if from == start && pending == before => {
                 return lowest(&accepted, false).map_or(Finding::Passes, |row| Finding::Starved { row });
             }
             Some(start) => from = start,
@@ -62,7 +56,6 @@ pub fn check_files(rule: &[u8], take: &[u8], sheet: &[u8]) -> Result<Finding, Re
     let sheet = read_sheet(sheet).map_err(|fault| fault.of(3))?;
     go_together(&rule, &take)?;
     let rows = normal(&rule.rows, false);
-    let take = take.covering(&rows)?;
     if sheet.rows != rows.len() || sheet.cycles != take.cycles {
         return Err(Refusal { reason: 9, file: 0, line: 0 });
     }

@@ -81,51 +81,35 @@ pub fn simulate(circuit: &[u8], inputs: &[u8], latches: &[u8], out: &mut [u8]) -
     Ok(length)
 }
 
-/// What a row's monitor is made of: its gates' operands, and the literals of failed, accept, pending and its second bit.
+/// What a row's monitor is made of: its gates' operands, and the literals of failed, accept and pending.
 struct Wired {
-    gates: [[usize; 2]; 4],
-    given: [usize; 4],
+    gates: [[usize; 2]; 3],
+    given: [usize; 3],
 }
 
-/// The literals of a row: its activator, its two latches, its gates; and of the latch that is on from the second cycle on.
-struct Own {
-    z: usize,
-    y: usize,
-    second: usize,
-    x: [usize; 4],
-    later: usize,
-}
-
-/// The table of docs/CIRCUIT.md.
-fn wired(row: &Row, own: Own, active: impl Fn(usize) -> usize) -> Wired {
-    let not = |literal: usize| literal ^ 1;
+/// The table of docs/CIRCUIT.md: `z` is the row's activator, `y` its latch, `x` its gates.
+fn wired(row: &Row, z: usize, y: usize, x: [usize; 3], active: impl Fn(usize) -> usize) -> Wired {
+    let not = |literal: usize| literal + 1;
     let (a, b) = (active(row.n[0]), active(row.n[1]));
-    let Own { z, y, second, x, later } = own;
-    let (p, rests, was, was_not) = (2 * row.n[0], [not(z), not(y)], [later, second], [later, not(second)]);
+    let (p, rests) = (2 * row.n[0], [not(z), not(y)]);
     let (gates, given): (&[[usize; 2]], _) = match row.kind {
-        Kind::True => (&[], [0, 1, 0, 0]),
-        Kind::False => (&[], [z, 1, 0, 0]),
-        Kind::Sig => (&[[z, not(p)]], [x[0], 1, 0, 0]),
-        Kind::Nsig => (&[[z, p]], [x[0], 1, 0, 0]),
+        Kind::True => (&[], [0, 1, 0]),
+        Kind::False => (&[], [z, 1, 0]),
+        Kind::Sig => (&[[z, not(p)]], [x[0], 1, 0]),
+        Kind::Nsig => (&[[z, p]], [x[0], 1, 0]),
         Kind::Not => unreachable!("a normal form has no `not`"),
-        Kind::And => (&[[a, b], [z, not(x[0])]], [x[1], 1, 0, 0]),
-        Kind::Or => (&[[not(a), not(b)], [z, x[0]]], [x[1], 1, 0, 0]),
-        Kind::Next => (&[[y, not(a)]], [x[0], 1, z, 0]),
-        Kind::Always => (&[rests, [not(x[0]), not(a)]], [x[1], 1, not(x[0]), 0]),
-        Kind::Ever => (&[rests, [not(x[0]), not(a)]], [0, not(x[1]), x[1], 0]),
-        Kind::Weak => (&[rests, [not(x[0]), not(b)], [x[1], not(a)]], [x[2], 1, x[1], 0]),
-        Kind::Until => (&[rests, [not(x[0]), not(b)], [x[1], not(a)]], [x[2], not(x[1]), x[1], 0]),
-        Kind::Release => (&[rests, [not(x[0]), not(a)], [not(x[0]), not(b)]], [x[2], 1, x[1], 0]),
-        Kind::Srelease => (&[rests, [not(x[0]), not(a)], [not(x[0]), not(b)]], [x[2], not(x[1]), x[1], 0]),
-        Kind::Before => (&[was, [z, not(x[0])]], [x[1], 1, 0, a]),
-        Kind::Wbefore => (&[was_not, [z, x[0]]], [x[1], 1, 0, a]),
-        Kind::Once => (&[was, [not(a), not(x[0])], [z, x[1]]], [x[2], 1, 0, not(x[1])]),
-        Kind::Sofar => (&[was_not, [a, not(x[0])], [z, not(x[1])]], [x[2], 1, 0, x[1]]),
-        Kind::Since => (&[was, [a, x[0]], [not(b), not(x[1])], [z, x[2]]], [x[3], 1, 0, not(x[2])]),
-        Kind::Trigger => (&[was_not, [not(a), x[0]], [b, not(x[1])], [z, not(x[2])]], [x[3], 1, 0, x[2]]),
+        Kind::And => (&[[a, b], [z, not(x[0])]], [x[1], 1, 0]),
+        Kind::Or => (&[[not(a), not(b)], [z, x[0]]], [x[1], 1, 0]),
+        Kind::Next => (&[[y, not(a)]], [x[0], 1, z]),
+        Kind::Always => (&[rests, [not(x[0]), not(a)]], [x[1], 1, not(x[0])]),
+        Kind::Ever => (&[rests, [not(x[0]), not(a)]], [0, not(x[1]), x[1]]),
+        Kind::Weak => (&[rests, [not(x[0]), not(b)], [x[1], not(a)]], [x[2], 1, x[1]]),
+        Kind::Until => (&[rests, [not(x[0]), not(b)], [x[1], not(a)]], [x[2], not(x[1]), x[1]]),
+        Kind::Release => (&[rests, [not(x[0]), not(a)], [not(x[0]), not(b)]], [x[2], 1, x[1]]),
+        Kind::Srelease => (&[rests, [not(x[0]), not(a)], [not(x[0]), not(b)]], [x[2], not(x[1]), x[1]]),
     };
     let gate = |j: usize| gates.get(j).copied().unwrap_or([0, 0]);
-    Wired { gates: [gate(0), gate(1), gate(2), gate(3)], given }
+    Wired { gates: [gate(0), gate(1), gate(2)], given }
 }
 
 /// The circuit of a normal form's monitors as a file.
@@ -133,23 +117,17 @@ fn circuit_text(s: usize, rows: &[Row]) -> Vec<u8> {
     let n = rows.len();
     let active = |k: usize| 2 * (s + k);
     let latch = |k: usize| 2 * (s + n + k);
-    let gate = |k: usize, j: usize| 2 * (s + 3 * n + 1 + 4 * (k - 1) + j);
-    let own = |k: usize| {
-        let x = [gate(k, 1), gate(k, 2), gate(k, 3), gate(k, 4)];
-        Own { z: active(k), y: latch(k), second: latch(n + k), x, later: latch(2 * n + 1) }
-    };
-    let all: Vec<Wired> = (1..).zip(rows).map(|(k, row)| wired(row, own(k), active)).collect();
+    let gate = |k: usize, j: usize| 2 * (s + 2 * n + 3 * (k - 1) + j);
+    let all: Vec<Wired> =
+        (1..).zip(rows).map(|(k, row)| wired(row, active(k), latch(k), [gate(k, 1), gate(k, 2), gate(k, 3)], active)).collect();
     let mut out = Vec::new();
-    writeln!(out, "aag {} {} {} {} {}", s + 7 * n + 1, s + n, 2 * n + 1, 3 * n, 4 * n).unwrap();
+    writeln!(out, "aag {} {} {n} {} {}", s + 5 * n, s + n, 3 * n, 3 * n).unwrap();
     for k in 1..=s + n {
         writeln!(out, "{}", 2 * k).unwrap();
     }
-    for (which, before) in [(2, 0), (3, n)] {
-        for (k, row) in (1..).zip(&all) {
-            writeln!(out, "{} {}", latch(before + k), row.given[which]).unwrap();
-        }
+    for (k, row) in (1..).zip(&all) {
+        writeln!(out, "{} {}", latch(k), row.given[2]).unwrap();
     }
-    writeln!(out, "{} 1", latch(2 * n + 1)).unwrap();
     for which in 0..3 {
         for row in &all {
             writeln!(out, "{}", row.given[which]).unwrap();

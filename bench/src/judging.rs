@@ -31,18 +31,17 @@ fn root_holds(rows: &[Row], take: &Take) -> bool {
 }
 
 /// The rows of the normal form, and the verdict.
-pub fn judge(rule: &Rule, take: Take) -> Result<(usize, Verdict), Refusal> {
+pub fn judge(rule: &Rule, take: &Take) -> (usize, Verdict) {
     let plain = normal(&rule.rows, false);
-    let take = take.covering(&plain)?;
-    let kept = root_holds(&plain, &take);
+    let kept = root_holds(&plain, take);
     let verdict = match (take.loop_at, kept) {
         (Some(_), true) => Verdict::Holds,
         (Some(_), false) => Verdict::Breaks,
         (None, true) => Verdict::Kept,
-        (None, false) if root_holds(&normal(&rule.rows, true), &take) => Verdict::Broken,
+        (None, false) if root_holds(&normal(&rule.rows, true), take) => Verdict::Broken,
         (None, false) => Verdict::Open,
     };
-    Ok((plain.len(), verdict))
+    (plain.len(), verdict)
 }
 
 /// The verdict on a rule and a looped take, or on a rule and an open one.
@@ -51,14 +50,14 @@ pub fn judge_files(rule: &[u8], take: &[u8], looped: bool) -> Result<Verdict, Re
     if take.loop_at.is_some() != looped {
         return Err(Refusal { reason: 8, file: 0, line: 0 });
     }
-    Ok(judge(&rule, take)?.1)
+    Ok(judge(&rule, &take).1)
 }
 
 fn judged(rule: &[u8], take: &[u8]) -> Result<String, Refusal> {
     let (rule, take) = read_pair(rule, take)?;
-    let (cycles, end) = (take.cycles, take.loop_at.map_or("none".to_string(), |start| start.to_string()));
-    let (rows, verdict) = judge(&rule, take)?;
-    Ok(format!("signals={}\nrows={rows}\ncycles={cycles}\nloop={end}\nverdict={}\n", rule.signals, verdict.word()))
+    let (rows, verdict) = judge(&rule, &take);
+    let end = take.loop_at.map_or("none".to_string(), |start| start.to_string());
+    Ok(format!("signals={}\nrows={rows}\ncycles={}\nloop={end}\nverdict={}\n", rule.signals, take.cycles, verdict.word()))
 }
 
 /// What the program `judge` prints for these two files.

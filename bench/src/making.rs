@@ -1,17 +1,18 @@
 // Making sheets, and their length.
 use crate::reading::{number_length, Refusal};
-use crate::rule::normal;
-use crate::take::read_pair;
+use crate::rule::{normal, Rule};
+use crate::take::{read_pair, Take};
 use crate::truth::truths;
 
-/// The activators of the sheet, a line of cycles for each row, one behind the other, and how many cycles these are; none where the rule is
-/// not satisfied or not kept.
-fn make(rule: &[u8], take: &[u8]) -> Result<Option<(Vec<bool>, usize)>, Refusal> {
-    let (rule, take) = read_pair(rule, take)?;
+/// The activators of the sheet, a line of cycles for each row, one behind the other; none where the rule is not satisfied or not kept.
+pub fn make(rule: &Rule, take: &Take) -> Option<Vec<bool>> {
     let rows = normal(&rule.rows, false);
-    let take = take.covering(&rows)?;
-    let table = truths(&rows, &take);
-    Ok(if table[(rows.len() - 1) * take.cycles] { Some((table, take.cycles)) } else { None })
+    let table = truths(&rows, take);
+    if table[(rows.len() - 1) * take.cycles] {
+        Some(table)
+    } else {
+        None
+    }
 }
 
 /// The sheet file of these activators.
@@ -33,10 +34,12 @@ fn text_length(rows: usize, cycles: usize) -> usize {
 
 /// The sheet file of the rule and the take in these files, or none.
 pub fn make_files(rule: &[u8], take: &[u8]) -> Result<Option<String>, Refusal> {
-    Ok(make(rule, take)?.map(|(active, cycles)| sheet_text(&active, cycles)))
+    let (rule, take) = read_pair(rule, take)?;
+    Ok(make(&rule, &take).map(|active| sheet_text(&active, take.cycles)))
 }
 
 /// The length of that file, 0 where there is none.
 pub fn sheet_length(rule: &[u8], take: &[u8]) -> Result<usize, Refusal> {
-    Ok(make(rule, take)?.map_or(0, |(active, cycles)| text_length(active.len() / cycles, cycles)))
+    let (rule, take) = read_pair(rule, take)?;
+    Ok(make(&rule, &take).map_or(0, |active| text_length(active.len() / take.cycles, take.cycles)))
 }

@@ -17,17 +17,11 @@ pub enum Kind {
     Srelease,
     Until,
     Release,
-    Before,
-    Wbefore,
-    Once,
-    Sofar,
-    Since,
-    Trigger,
 }
 use self::Kind::*;
 
 // kind (each at its own place), word, how many numbers, whether they are operands, partner
-pub const KINDS: [(Kind, &str, usize, bool, Kind); 20] = [
+pub const KINDS: [(Kind, &str, usize, bool, Kind); 14] = [
     (True, "true", 0, false, False),
     (False, "false", 0, false, True),
     (Sig, "sig", 1, false, Nsig),
@@ -42,21 +36,11 @@ pub const KINDS: [(Kind, &str, usize, bool, Kind); 20] = [
     (Srelease, "srelease", 2, true, Weak),
     (Until, "until", 2, true, Release),
     (Release, "release", 2, true, Until),
-    (Before, "before", 1, true, Wbefore),
-    (Wbefore, "wbefore", 1, true, Before),
-    (Once, "once", 1, true, Sofar),
-    (Sofar, "sofar", 1, true, Once),
-    (Since, "since", 2, true, Trigger),
-    (Trigger, "trigger", 2, true, Since),
 ];
 
 impl Kind {
     pub fn partner(self) -> Kind {
         KINDS[self as usize].4
-    }
-
-    pub fn looks_back(self) -> bool {
-        matches!(self, Before | Wbefore | Once | Sofar | Since | Trigger)
     }
 }
 
@@ -155,14 +139,4 @@ pub fn normal(rows: &[Row], negated: bool) -> Vec<Row> {
         }
     }
     out
-}
-
-/// How many rows that look back are nested: the most on one branch of a normal form.
-pub fn nesting(rows: &[Row]) -> usize {
-    let mut nested: Vec<usize> = Vec::with_capacity(rows.len());
-    for row in rows {
-        let below = row.operands().iter().map(|n| nested[n - 1]).max().unwrap_or(0);
-        nested.push(below + row.kind.looks_back() as usize);
-    }
-    nested.into_iter().max().unwrap_or(0)
 }

@@ -11,9 +11,7 @@ const ROWS: usize = 1024;
 const COUNTS: usize = 1216;
 
 /// The kinds by the numbers that a run has for them.
-const NUMBERED: [Kind; 20] = [
-    True, False, Sig, Nsig, Not, And, Or, Next, Always, Ever, Weak, Until, Release, Srelease, Before, Wbefore, Once, Sofar, Since, Trigger,
-];
+const NUMBERED: [Kind; 14] = [True, False, Sig, Nsig, Not, And, Or, Next, Always, Ever, Weak, Until, Release, Srelease];
 
 #[derive(Clone, Copy)]
 struct Counts {
@@ -122,5 +120,5 @@ pub fn run_verdict(run: &[u8]) -> Result<Verdict, Refusal> {
             bits.push(run[byte] >> bit & 1 == 1);
         }
     }
-    Ok(judge(&Rule { signals, rows }, Take::open(signals, cycles, bits))?.1)
+    Ok(judge(&Rule { signals, rows }, &Take::open(signals, cycles, bits)).1)
 }

@@ -1,6 +1,6 @@
 // Take files.
 use crate::reading::{number, Fault, Lines, Refusal};
-use crate::rule::{nesting, read_rule, Row, Rule};
+use crate::rule::{read_rule, Rule};
 
 pub struct Take {
     pub signals: usize,
@@ -18,21 +18,6 @@ impl Take {
     /// Signal s (from 1) at cycle i.
     pub fn signal(&self, s: usize, i: usize) -> bool {
         self.bits[i * self.signals + s - 1]
-    }
-
-    /// The take that truth and sheets of these rows are over: with a round of the loop before it for each row that looks back on a branch.
-    pub fn covering(mut self, rows: &[Row]) -> Result<Take, Refusal> {
-        let Some(start) = self.loop_at else { return Ok(self) };
-        let (rounds, round) = (nesting(rows), self.cycles - start);
-        if self.cycles + rounds * round > 256 {
-            return Err(Refusal { reason: 12, file: 0, line: 0 });
-        }
-        for _ in 0..rounds {
-            self.bits.extend_from_within(start * self.signals..self.cycles * self.signals);
-        }
-        self.cycles += rounds * round;
-        self.loop_at = Some(start + rounds * round);
-        Ok(self)
     }
 }
 

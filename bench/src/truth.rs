@@ -1,4 +1,4 @@
-// Truth of the rows of a normal form: a table of rows and cycles, filled backward, and forward where a row looks back.
+// Truth of the rows of a normal form: a table of rows and cycles, filled backward.
 use crate::rule::{Kind, Row};
 use crate::take::Take;
 
@@ -16,17 +16,8 @@ fn fill(line: &mut [bool], loop_at: Option<usize>, endless: bool, step: impl Fn(
     }
 }
 
-/// Fills a row that looks back from the first cycle on. `step` says what holds at a cycle, given what holds at the one before it.
-fn fill_forward(line: &mut [bool], first: bool, step: impl Fn(usize, bool) -> bool) {
-    let mut before = first;
-    for (i, cell) in line.iter_mut().enumerate() {
-        before = step(i, before);
-        *cell = before;
-    }
-}
-
 /// Whether each row is true at each cycle, a line of cycles for each row, one behind the other: on the endless repetition of a
-/// looped take, which covers the rows, strongly on an open one.
+/// looped take, strongly on an open one.
 pub fn truths(rows: &[Row], take: &Take) -> Vec<bool> {
     let n = take.cycles;
     let mut table = vec![false; rows.len() * n];
@@ -54,14 +45,6 @@ pub fn truths(rows: &[Row], take: &Take) -> Vec<bool> {
             Kind::Weak => fill(line, end, true, |i, after| b[i] || a[i] && after),
             Kind::Srelease => fill(line, end, false, |i, after| b[i] && (a[i] || after)),
             Kind::Release => fill(line, end, true, |i, after| b[i] && (a[i] || after)),
-            Kind::Before | Kind::Wbefore => {
-                line[0] = row.kind == Kind::Wbefore;
-                line[1..].copy_from_slice(&a[..n - 1]);
-            }
-            Kind::Once => fill_forward(line, false, |i, before| a[i] || before),
-            Kind::Sofar => fill_forward(line, true, |i, before| a[i] && before),
-            Kind::Since => fill_forward(line, false, |i, before| b[i] || a[i] && before),
-            Kind::Trigger => fill_forward(line, true, |i, before| b[i] && (a[i] || before)),
         }
     }
     table

@@ -80,14 +80,12 @@ fn mend_all(target: Target, files: &mut [Vec<u8>]) {
                 [take] => *take = mend::take(take, signals).0,
                 [calls, _] if target == Target::Run => *calls = mend::calls(calls, signals),
                 [take, sheet] => {
-                    let own;
-                    (*take, own) = mend::take(take, signals);
-                    // as many cycles as its sheets cover; a take that is too long for that is refused before the sheet is looked at
-                    let cycles = second::sheet_cycles(rule, take).unwrap_or(own);
+                    let cycles;
+                    (*take, cycles) = mend::take(take, signals);
                     *sheet = mend::sheet(sheet, rows, cycles);
                 }
-                [state, activators, digits] => {
-                    *state = mend::digits(state, 2 * rows + 1).into_bytes();
+                [pendings, activators, digits] => {
+                    *pendings = mend::digits(pendings, rows).into_bytes();
                     *activators = mend::digits(activators, rows).into_bytes();
                     *digits = mend::digits(digits, signals).into_bytes();
                 }

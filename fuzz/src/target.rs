@@ -8,10 +8,10 @@ use std::sync::OnceLock;
 
 /// The most that a service writes, as in `include/citronhelm.h`.
 const MOST_NORMAL: usize = 2845;
-const MOST_STEP: usize = 513;
+const MOST_STEP: usize = 384;
 const MOST_TEXT: usize = 64;
 const MOST_SHEET: usize = 33_567;
-const MOST_CIRCUIT: usize = 12_999;
+const MOST_CIRCUIT: usize = 9789;
 
 #[derive(Clone, Copy, Debug, PartialEq, Eq)]
 pub enum Target {
@@ -25,7 +25,7 @@ pub enum Target {
     Judge,
     /// Rule, take and sheet: the check.
     Check,
-    /// Rule, state, activators and signals: one step.
+    /// Rule, pendings, activators and signals: one step.
     Step,
     /// Rule, calls and changes: a run.
     Run,
@@ -90,12 +90,12 @@ impl Target {
                 library::check_sheet(rule, take, sheet),
                 coded(second::check_sheet(rule, take, sheet)),
             ),
-            [rule, state, activators, signals] => alike_writing(
+            [rule, pendings, activators, signals] => alike_writing(
                 "step",
                 MOST_STEP,
                 None,
-                |output| library::step(rule, state, activators, signals, output),
-                |output| coded(second::step(rule, state, activators, signals, output)),
+                |output| library::step(rule, pendings, activators, signals, output),
+                |output| coded(second::step(rule, pendings, activators, signals, output)),
             ),
             _ => unreachable!("a target has its number of files"),
         }

@@ -21,7 +21,7 @@ use Rattle.checking.specs.declared.finding.Finding.TheVariants.{Root, Failed, St
 use Rattle.checking.specs.declared.finding.CheckAnswer.{CheckAnswer}
 use Rattle.checking.specs.declared.finding.CheckAnswer.TheVariants.{Checked, Refused as CheckRefused}
 
--- 2 ^ 63, the refusal's number in the list of 01 and 02, its file in the second byte, its line above
+-- 2 ^ 63, the refusal's number in 01's list, its file in the second byte, its line above
 abbrev pub refusal_code : Refusal → ℕ
 refusal_code why = 9223372036854775808 + number why.reason + 256 * why.file + 65536 * (why.line % 4294967296)
 

@@ -11,13 +11,13 @@ use Rattle.tables.specs.declared.row.Row.{Row}
 use Rattle.tables.specs.declared.row.Row.TheVariants.{Constant, Signal, Unary, Binary}
 use Rattle.tables.specs.declared.row.NormalForm.{NormalForm}
 use Rattle.meaning.specs.Satisfaction.{Table, table_of}
-use Rattle.meaning.specs.Pattern.{Pattern, Pattern.now, Pattern.next, Pattern.connective, Pattern.previous, Pattern.temporal, Pattern.past, pattern_of}
+use Rattle.meaning.specs.Pattern.{pattern_of}
 use Rattle.meaning.specs.Rows.{Each}
 use Rattle.meaning.proofs.Rows.{each_map}
 use Rattle.normal_form.specs.Form.{InNormalForm}
 use Rattle.normal_form.proofs.FormTables.{form_operands}
 use Rattle.cycle_rows.specs.Cells.{row_cell}
-use Rattle.between_rounds.specs.Between.{sure_in, every_operand, same_bit, surely, handed, Surveyed, Handed}
+use Rattle.between_rounds.specs.Between.{sure_in, every_operand, same_bit, stays, surely, handed, Surveyed, Handed}
 
 -- ---- which rows are sure
 
@@ -28,22 +28,17 @@ every_operand_local u v (Signal c s) e = refl
 every_operand_local u v (Unary c a) e = e
 every_operand_local u v (Binary c a b) e = ap₂ ◌&&◌ e.0 e.1
 
-surely_local : (before u v same : ℕ → Bool) (k : ℕ) (r : Row) (p : Pattern) → Each (λ a. u a ≡ v a) r → surely before u same k r p ≡ surely before v same k r p
-surely_local before u v same k r now e = every_operand_local u v r e
-surely_local before u v same k r next e = ap (λ x. x && every_operand same r) (every_operand_local u v r e)
-surely_local before u v same k r (connective f) e = every_operand_local u v r e
-surely_local before u v same k r (previous w) e = refl
-surely_local before u v same k r (temporal f w) e = ap (λ x. x && same k) (every_operand_local u v r e)
-surely_local before u v same k r (past f w) e = refl
+pub surely_local : (u v same : ℕ → Bool) (k : ℕ) (r : Row) → Each (λ a. u a ≡ v a) r → surely u same k r ≡ surely v same k r
+surely_local u v same k r e = ap (λ x. x && stays same k r (pattern_of r)) (every_operand_local u v r e)
 
-module _ (g : NormalForm) (ok : InNormalForm g) (behind left before : ℕ → Bool) where
+module _ (g : NormalForm) (ok : InNormalForm g) (behind left : ℕ → Bool) where
   abbrev asked : (ℕ → Bool) → ℕ → Bool
-  asked sure k = surely before sure (λ a. same_bit (behind a) (left a)) k (table_of g.places k) (pattern_of (table_of g.places k))
+  asked sure k = surely sure (λ a. same_bit (behind a) (left a)) k (table_of g.places k)
 
   -- the first k rows are surveyed, and `all` says whether all of them are sure
   pub record SurveyedTo (k : ℕ) (sure : List Bool) (all : Bool) : Type 0 where
     pub within : k ≤ g.rows
-    pub told : Surveyed (table_of g.places) k behind left before (sure_in sure)
+    pub told : Surveyed (table_of g.places) k behind left (sure_in sure)
     pub each : all ≡ true → (j : ℕ) → j < k → sure_in sure (suc j) ≡ true
     pub some : all ≡ false → (j : ℕ) × (j < k) × (sure_in sure (suc j) ≡ false)
 
@@ -61,7 +56,7 @@ module _ (g : NormalForm) (ok : InNormalForm g) (behind left before : ℕ → Bo
     -- operands are earlier rows
     kept : (j : ℕ) → j < suc k → asked (sure_in sure) (suc j) ≡ asked (sure_in (set sure k on)) (suc j)
     kept j l =
-        surely_local before (sure_in sure) (sure_in (set sure k on)) (λ a. same_bit (behind a) (left a)) (suc j) (table_of g.places (suc j)) (pattern_of (table_of g.places (suc j)))
+        surely_local (sure_in sure) (sure_in (set sure k on)) (λ a. same_bit (behind a) (left a)) (suc j) (table_of g.places (suc j))
         (each_map _ _ (λ a b. still a b.0 (omega (arith, b.1))) (table_of g.places (suc j)) (form_operands g ok (suc j) (omega arith)))
 
     -- what holds of row k + 1 and of the first k holds of the first k + 1
@@ -98,7 +93,7 @@ module _ (t : Table) (sure : ℕ → Bool) (left : List Bool) where
 
   -- THE NEXT ROW
   pub handed_more :
-      {k : ℕ} {cells : List Bool} → length cells ≡ 288 → k < 128 → (x : Bool) → x ≡ handed (pattern_of (t (suc k))) (every_operand sure (t (suc k))) (row_cell cells (suc k))
+      {k : ℕ} {cells : List Bool} → length cells ≡ 160 → k < 128 → (x : Bool) → x ≡ handed (pattern_of (t (suc k))) (every_operand sure (t (suc k))) (row_cell cells (suc k))
       → HandedTo k cells → HandedTo (k + 1) (set cells (32 + k) x)
   handed_more {k} {cells} size h x e to = record { started = λ j l. by j l (ℕ_discrete j k); later = λ j l. other j (omega arith) ∙ to.later j (omega arith) }
     where

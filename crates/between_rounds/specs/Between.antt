@@ -5,7 +5,7 @@ use Rattle.tables.specs.declared.row.Row.{Row}
 use Rattle.tables.specs.declared.row.Row.TheVariants.{Constant, Signal, Unary, Binary}
 use Rattle.meaning.specs.Satisfaction.{Table}
 use Rattle.cycle_rows.specs.Cells.{row_cell}
-use Rattle.meaning.specs.Pattern.{Pattern, Pattern.now, Pattern.next, Pattern.connective, Pattern.previous, Pattern.temporal, Pattern.past, pattern_of}
+use Rattle.meaning.specs.Pattern.{Pattern, Pattern.now, Pattern.next, Pattern.connective, Pattern.temporal, pattern_of}
 
 -- by numbers, which count from 1
 abbrev pub sure_in : List Bool → ℕ → Bool
@@ -33,26 +33,23 @@ abbrev pub handed : Pattern → Bool → Bool → Bool
 handed now operands x = x
 handed next operands x = x
 handed (connective f) operands x = x
-handed (previous w) operands x = x
 handed (temporal f w) operands x = pick operands x w
-handed (past f w) operands x = x
 
--- a row is sure behind a round where its operands are, and where the round has left at the loop's cycle what stood behind the last one, as
--- far as the row reads it there (`same`). A row that looks back was filled from what the round before had left, so it is where its operands
--- were sure before.
-abbrev pub surely : (ℕ → Bool) → (ℕ → Bool) → (ℕ → Bool) → ℕ → Row → Pattern → Bool
-surely before sure same k r now = every_operand sure r
-surely before sure same k r next = every_operand sure r && every_operand same r
-surely before sure same k r (connective f) = every_operand sure r
-surely before sure same k r (previous w) = every_operand before r
-surely before sure same k r (temporal f w) = every_operand sure r && same k
-surely before sure same k r (past f w) = every_operand before r
+-- the round has left at the loop's cycle what stood behind the last one, as far as the row reads it there
+abbrev pub stays : (ℕ → Bool) → ℕ → Row → Pattern → Bool
+stays same k r now = true
+stays same k r next = every_operand same r
+stays same k r (connective f) = true
+stays same k r (temporal f w) = same k
 
--- of the rows of a table: behind a round that began with `behind` and left `left` at the loop's cycle; `before` is what was sure before it
-module _ (t : Table) (rows : ℕ) (behind left before : ℕ → Bool) where
+-- a row is sure behind a round
+abbrev pub surely : (ℕ → Bool) → (ℕ → Bool) → ℕ → Row → Bool
+surely sure same k r = every_operand sure r && stays same k r (pattern_of r)
+
+-- of the rows of a table: behind a round that began with `behind` and left `left` at the loop's cycle
+module _ (t : Table) (rows : ℕ) (behind left : ℕ → Bool) where
   abbrev pub Surveyed : (ℕ → Bool) → Type 0
-  Surveyed sure = (k : ℕ) → k < rows
-      → sure (suc k) ≡ surely before sure (λ a. same_bit (behind a) (left a)) (suc k) (t (suc k)) (pattern_of (t (suc k)))
+  Surveyed sure = (k : ℕ) → k < rows → sure (suc k) ≡ surely sure (λ a. same_bit (behind a) (left a)) (suc k) (t (suc k))
 
 -- the start of the next round, from what is sure and what was left
 module _ (t : Table) (rows : ℕ) (sure left : ℕ → Bool) where

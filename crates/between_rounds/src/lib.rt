@@ -5,7 +5,7 @@ ghost use Rattle.meaning.specs.Satisfaction.{table_of};
 ghost use Rattle.meaning.specs.Pattern.{pattern_of};
 ghost use Rattle.normal_form.specs.Form.{InNormalForm};
 ghost use Rattle.cycle_rows.specs.Cells.{row_cell};
-ghost use Rattle.between_rounds.specs.Between.{every_operand, handed, Handed, same_bit, same_in, sure_in, surely, Surveyed};
+ghost use Rattle.between_rounds.specs.Between.{every_operand, handed, Handed, same_bit, same_in, stays, sure_in, Surveyed};
 
 use cycle_rows::pattern::{Pattern, pattern_of};
 use tables::row::{NormalForm, Row};
@@ -26,7 +26,7 @@ fn put(bits: &mut [bool], at: usize, on: bool)
 }
 
 // Whether a row is at the loop's cycle what stood behind the last one.
-fn same_at(behind: &[bool; 288], cells: &[bool; 288], number: u8) -> bool
+fn same_at(behind: &[bool; 160], cells: &[bool; 160], number: u8) -> bool
     requires { (1 ≤ number) × (number ≤ 128) }
     ensures answer { result ≡ same_bit (row_cell behind.now number) (row_cell cells.now number) }
 {
@@ -47,7 +47,7 @@ fn operands_sure(row: Row, sure: &[bool; 128]) -> bool
 }
 
 // Whether each operand is at the loop's cycle what stood behind the last one.
-fn operands_same(row: Row, behind: &[bool; 288], cells: &[bool; 288]) -> bool
+fn operands_same(row: Row, behind: &[bool; 160], cells: &[bool; 160]) -> bool
     requires { Each (λ a. (1 ≤ a) × (a ≤ 128)) row }
     ensures answer { result ≡ every_operand (same_in behind.now cells.now) row }
 {
@@ -59,42 +59,30 @@ fn operands_same(row: Row, behind: &[bool; 288], cells: &[bool; 288]) -> bool
     }
 }
 
-// Whether a row is sure behind a round.
-fn row_sure(
-    row: Row,
-    number: u8,
-    behind: &[bool; 288],
-    cells: &[bool; 288],
-    before: &[bool; 128],
-    sure: &[bool; 128],
-) -> bool
+// Whether what a row reads behind the last cycle is what the round has left at the loop's.
+fn row_stays(row: Row, number: u8, behind: &[bool; 160], cells: &[bool; 160]) -> bool
     requires { Each (λ a. (1 ≤ a) × (a ≤ 128)) row × (1 ≤ number) × (number ≤ 128) }
-    ensures answer { result ≡ surely (sure_in before.now) (sure_in sure.now)
-        (same_in behind.now cells.now) number row (pattern_of row) }
+    ensures answer { result ≡ stays (same_in behind.now cells.now) number row (pattern_of row) }
 {
     let pattern = pattern_of(row);
     match pattern {
-        Pattern::Now => operands_sure(row, sure),
-        Pattern::Next => operands_sure(row, sure) & operands_same(row, behind, cells),
-        Pattern::Connective(_) => operands_sure(row, sure),
-        Pattern::Previous(_) => operands_sure(row, before),
-        Pattern::Temporal(_, _) => operands_sure(row, sure) & same_at(behind, cells, number),
-        Pattern::Past(_, _) => operands_sure(row, before),
+        Pattern::Now => true,
+        Pattern::Next => operands_same(row, behind, cells),
+        Pattern::Connective(_) => true,
+        Pattern::Temporal(_, _) => same_at(behind, cells, number),
     }
 }
 
-// Which rows are sure behind a round, and whether all are. `behind` is what stood behind the last cycle, `cells` the loop's cycle, and
-// `before` what was sure before the round.
+// Which rows are sure behind a round, and whether all are. `behind` is what stood behind the last cycle, `cells` the loop's cycle.
 pub fn survey(
     form: NormalForm,
-    behind: &[bool; 288],
-    cells: &[bool; 288],
-    before: &[bool; 128],
+    behind: &[bool; 160],
+    cells: &[bool; 160],
     sure: &mut [bool; 128],
 ) -> bool
     requires { InNormalForm form }
     ensures surveyed { Surveyed (table_of form.places) form.rows (row_cell behind.now) (row_cell cells.now)
-        (sure_in before.now) (sure_in sure.new) }
+        (sure_in sure.new) }
     ensures all { result ≡ true → (k : ℕ) → k < form.rows → sure_in sure.new (suc k) ≡ true }
     ensures some { result ≡ false → (k : ℕ) × (k < form.rows) × (sure_in sure.new (suc k) ≡ false) }
 {
@@ -106,7 +94,7 @@ pub fn survey(
         let place = form.places[at];
         let row = place.row;
         k += 1;
-        let on = row_sure(row, k, behind, cells, before, &*sure);
+        let on = operands_sure(row, &*sure) & row_stays(row, k, behind, cells);
         put(sure, at, on);
         all = all & on;
     }
@@ -123,14 +111,12 @@ fn row_handed(row: Row, operands: bool, left: bool) -> bool
         Pattern::Now => left,
         Pattern::Next => left,
         Pattern::Connective(_) => left,
-        Pattern::Previous(_) => left,
         Pattern::Temporal(_, start) => if operands { left } else { start },
-        Pattern::Past(_, _) => left,
     }
 }
 
 // The next round's start, in place: the cells hold the loop's cycle, and then what stands behind the last.
-pub fn restart(form: NormalForm, sure: &[bool; 128], cells: &mut [bool; 288])
+pub fn restart(form: NormalForm, sure: &[bool; 128], cells: &mut [bool; 160])
     requires { InNormalForm form }
     ensures started { Handed (table_of form.places) form.rows (sure_in sure.now) (row_cell cells.old)
         (row_cell cells.new) }

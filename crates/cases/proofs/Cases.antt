@@ -18,10 +18,8 @@ use Rattle.rule_file.specs.Written.{written_rule}
 use Rattle.take_file.specs.Ending.{ending_value}
 use Rattle.take_file.specs.Take.{parse_take}
 use Rattle.meaning.specs.Trace.{position}
-use Rattle.meaning.specs.Approximant.{approximant, accumulated}
-use Rattle.meaning.specs.Nesting.{nested_within, nested, most_nested}
+use Rattle.meaning.specs.Approximant.{approximant}
 use Rattle.meaning.proofs.Evaluation.{bits_within, bits_of}
-use Rattle.written_out.specs.Covered.{covered}
 use Rattle.normal_form.specs.Reach.{marked_down, reach}
 use Rattle.normal_form.specs.Numbering.{listing, normal_listing, normal_form}
 use Rattle.row_writer.specs.Normal.{written_normal}
@@ -41,25 +39,25 @@ a also b = first a b
 
 -- row by row; of a verdict: the signals agree, the ending is what the service needs, and the bits give the verdict
 computed : Each Computed cases
-unfolding parse_rule keyed_line cut_of first_where further same_bytes count_form number_of padded_of digits_of digits_from body_lines is_numbered row_value row_form form_of kind_named kinds kind_at dual_of tabulate_from written_rule written_body decimal decimal_in marked_down reach listing normal_listing normal_form written_normal refusal_text parse_take are_digits digits_form ending_value bit_at word_from lane_of position approximant accumulated nested_within nested most_nested covered bits_within bits_of verdict_text parse_sheet written_sheet report_from reported survey_from surveyed computed_finding rows_length
+unfolding parse_rule keyed_line cut_of first_where further same_bytes count_form number_of padded_of digits_of digits_from body_lines is_numbered row_value row_form form_of kind_named kinds kind_at dual_of tabulate_from written_rule written_body decimal decimal_in marked_down reach listing normal_listing normal_form written_normal refusal_text parse_take are_digits digits_form ending_value bit_at word_from lane_of position approximant bits_within bits_of verdict_text parse_sheet written_sheet report_from reported survey_from surveyed computed_finding rows_length
 computed =
     refl
     also (λ buf. (refl, refl))
     also (λ buf. (refl, refl))
     also (λ buf. (refl, refl))
-    also (refl, refl, refl, refl)
-    also (refl, refl, refl, refl)
-    also (refl, refl, refl, refl)
-    also (refl, refl, refl, refl)
-    also (refl, refl, refl, refl)
-    also (refl, refl, refl, refl)
-    also (refl, refl, refl, refl)
-    also (refl, refl, refl, refl)
-    also (refl, refl, refl, refl)
-    also (refl, refl, refl, refl)
-    also (refl, refl, refl, refl)
-    also (refl, refl, refl, refl)
-    also (refl, refl, refl, refl)
+    also (refl, refl, refl)
+    also (refl, refl, refl)
+    also (refl, refl, refl)
+    also (refl, refl, refl)
+    also (refl, refl, refl)
+    also (refl, refl, refl)
+    also (refl, refl, refl)
+    also (refl, refl, refl)
+    also (refl, refl, refl)
+    also (refl, refl, refl)
+    also (refl, refl, refl)
+    also (refl, refl, refl)
+    also (refl, refl, refl)
     also (refl, refl)
     also (refl, refl)
     also (refl, refl)
@@ -67,15 +65,15 @@ computed =
     also (refl, refl)
     also refl
     also refl
-    also record { signals = refl; twelve = refl; rows = refl; cycles = refl; holds = refl; digits = refl; written = refl }
-    also record { signals = refl; twelve = refl; rows = refl; cycles = refl; found = refl }
-    also record { signals = refl; twelve = refl; rows = refl; cycles = refl; found = refl }
-    also record { signals = refl; twelve = refl; rows = refl; cycles = refl; found = refl }
+    also record { signals = refl; rows = refl; cycles = refl; holds = refl; digits = refl; written = refl }
+    also record { signals = refl; rows = refl; cycles = refl; found = refl }
+    also record { signals = refl; rows = refl; cycles = refl; found = refl }
+    also record { signals = refl; rows = refl; cycles = refl; found = refl }
     also (refl, refl, (refl, refl, tt))
     also (refl, refl, (refl, refl, (refl, refl, tt)))
     also (λ buf. (refl, refl))
     also (refl, refl)
-    also record { signals = refl; twelve = refl; rows = refl; cycles = refl; found = refl }
+    also record { signals = refl; rows = refl; cycles = refl; found = refl }
     also refl
     also refl
     also refl
@@ -83,34 +81,10 @@ computed =
     also refl
     also refl
     also refl
-    also (refl, refl, refl)
-    also (refl, refl, refl)
-    also (refl, refl, refl)
-    also (refl, refl, refl)
-    also (λ buf. (refl, refl))
-    also (λ buf. (refl, refl))
-    also (λ buf. (refl, refl))
-    also (refl, refl, refl, refl)
-    also (refl, refl, refl, refl)
-    also (refl, refl, refl, refl)
-    also (refl, refl, refl, refl)
-    also (refl, refl, refl, refl)
-    also (refl, refl, refl, refl)
-    also (refl, refl, refl, refl)
-    also (refl, refl, refl, refl)
-    also (refl, refl, refl, refl)
-    also (refl, refl, refl, refl)
-    also (refl, refl, refl, refl)
-    also (refl, refl, refl, refl)
-    also (refl, refl, (refl, refl, tt))
-    also (refl, refl, refl, refl)
-    also (refl, refl, refl, refl)
-    also record { signals = refl; twelve = refl; rows = refl; cycles = refl; holds = refl; digits = refl; written = refl }
-    also record { signals = refl; twelve = refl; rows = refl; cycles = refl; found = refl }
-    also (refl, refl, refl)
     also (refl, refl)
     also (refl, refl)
-    also (refl, refl, refl, refl)
+    also (refl, refl)
+    also (refl, refl)
     also none
 
 pub all_cases : Each Says cases

@@ -7,7 +7,7 @@ use native.Mathlib.Omega.{arith}
 use lib.ListN.{length, length-append}
 use Rattle.tables.specs.Bytes.{bytes}
 use Rattle.tables.specs.declared.refusal.Outcome.{Outcome}
-use Rattle.tables.specs.declared.refusal.Outcome.TheVariants.{Accepted, Refused}
+use Rattle.tables.specs.declared.refusal.Outcome.TheVariants.{Accepted}
 use Rattle.tables.specs.declared.row.Formula.{Formula}
 use Rattle.tables.specs.declared.trace.Activation.{Activation}
 use Rattle.tables.specs.declared.trace.Ending.{Ending}
@@ -26,14 +26,14 @@ use Rattle.normal_form.specs.Numbering.{normal_form}
 use Rattle.judging.specs.Verdict.{VerdictOf}
 use Rattle.judging.specs.declared.verdict.Verdict.{Verdict}
 use Rattle.judging.specs.declared.verdict.Answer.TheVariants.{Judged}
-use Rattle.meeting.specs.Meeting.{eight_outcome, twelve_outcome, pair_outcome}
+use Rattle.meeting.specs.Meeting.{eight_outcome, pair_outcome}
 use Rattle.meeting.specs.declared.Wanted.{Wanted}
 use Rattle.meeting.specs.declared.Wanted.TheVariants.{Looped, Unlooped}
 use Rattle.tables.proofs.Outcomes.{agree}
 use Rattle.judging.proofs.ByBits.{computed_verdict, verdict_computed, answered}
-use Rattle.writing.specs.Refusal.{refusal_text, Told}
+use Rattle.writing.specs.Refusal.{refusal_text}
 use Rattle.judge_text.specs.Text.{verdict_text}
-use Rattle.judge_text.specs.Answer.{IsVerdictText, IsText}
+use Rattle.judge_text.specs.Answer.{IsText}
 use Rattle.checking.specs.declared.finding.Finding.{Finding}
 use Rattle.run.specs.Cycles.{Led, cycle_outcome}
 use Rattle.run.proofs.Calls.{led_begun, led_more}
@@ -52,17 +52,13 @@ OnTwo (accepted f) (accepted t) P = P f t
 OnTwo (accepted f) (refused e n) P = ⊥
 OnTwo (refused e n) q P = ⊥
 
--- the signals agree, the ending is what the service needs, 12 is not due, and the bits give the verdict
+-- the signals agree, the ending is what the service needs, and the bits give the verdict
 abbrev Judges : Wanted → Verdict → Result Formula → Result Trace → Type 0
-Judges wanted v p q = OnTwo p q (λ f t. (f.signals ≡ t.signals) × (eight_outcome wanted t.ending ≡ Accepted) × (twelve_outcome f t ≡ Accepted) × (computed_verdict f t ≡ v))
+Judges wanted v p q = OnTwo p q (λ f t. (f.signals ≡ t.signals) × (eight_outcome wanted t.ending ≡ Accepted) × (computed_verdict f t ≡ v))
 
--- the same for the text, or 12 is told; or the first file that is turned back is
-abbrev PrintsMet : List ℕ → Formula → Trace → Outcome → Type 0
-PrintsMet text f t Accepted = verdict_text f.signals (normal_form f Plain).rows t.cycles t.ending (computed_verdict f t) ≡ text
-PrintsMet text f t (Refused why) = refusal_text why ≡ text
-
+-- the same for the text; or the first file that is turned back is told
 abbrev PrintsText : List ℕ → Result Formula → Result Trace → Type 0
-PrintsText text (accepted f) (accepted t) = (f.signals ≡ t.signals) × PrintsMet text f t (twelve_outcome f t)
+PrintsText text (accepted f) (accepted t) = (f.signals ≡ t.signals) × (verdict_text f.signals (normal_form f Plain).rows t.cycles t.ending (computed_verdict f t) ≡ text)
 PrintsText text (accepted f) (refused e n) = refusal_text (record { reason = e; file = 2; line = n }) ≡ text
 PrintsText text (refused e n) q = refusal_text (record { reason = e; file = 1; line = n }) ≡ text
 
@@ -100,19 +96,16 @@ Computed (runs rule watched) = OnOne (parse_rule (file_bytes rule)) (λ f. RunsT
 module _ (rule take : File) where
   judged : (wanted : Wanted) (v : Verdict) (p : Result Formula) (q : Result Trace) → parse_rule (file_bytes rule) ≡ p → parse_take (file_bytes take) ≡ q
       → Judges wanted v p q → Answered (pair_outcome wanted) rule take (Judged v)
-  judged wanted v (accepted f) (accepted t) fr tr (same, e, d, c) =
-      rw (fr, tr, ← c) (answered f t (rule_valid (file_bytes rule) f fr) (take_valid (file_bytes take) t tr) same wanted e d)
+  judged wanted v (accepted f) (accepted t) fr tr (same, e, c) =
+      rw (fr, tr, ← c) (answered f t (rule_valid (file_bytes rule) f fr) (take_valid (file_bytes take) t tr) same wanted e)
   judged wanted v (accepted f) (refused e n) fr tr x = absurd x
   judged wanted v (refused e n) q fr tr x = absurd x
 
   printed : (text : List ℕ) (p : Result Formula) (q : Result Trace) → parse_rule (file_bytes rule) ≡ p → parse_take (file_bytes take) ≡ q
       → PrintsText text p q → IsText p q text
-  printed text (accepted f) (accepted t) fr tr (same, e) = rw (sym (agree f.signals t.signals same)) (by (twelve_outcome f t) e)
-    where
-      by : (o : Outcome) → PrintsMet text f t o → Told o (IsVerdictText f t) text
-      by Accepted e =
-          (computed_verdict f t, verdict_computed f t (rule_valid (file_bytes rule) f fr).in_range_lem (take_valid (file_bytes take) t tr).range, sym e)
-      by (Refused why) e = sym e
+  printed text (accepted f) (accepted t) fr tr (same, e) =
+      let told = verdict_computed f t (rule_valid (file_bytes rule) f fr).in_range_lem (take_valid (file_bytes take) t tr).range in
+      rw (sym (agree f.signals t.signals same)) (computed_verdict f t, told, sym e)
   printed text (accepted f) (refused e n) fr tr x = sym x
   printed text (refused e n) q fr tr x = sym x
 

@@ -1,6 +1,6 @@
 -- What the cases on sheets have to compute, and that it makes them so. Assumes nothing.
 use Prim.Native.Nat.{ℕ, zero, suc, ◌+◌, ◌-◌, ◌≤◌, ◌<◌}
-use mathlib.Core.Path.{◌≡◌, refl, sym, ap, subst, ◌∙◌}
+use mathlib.Core.Path.{◌≡◌, refl, sym, ap, subst, subst⁻¹, ◌∙◌}
 use mathlib.Core.Logic.{◌↔◌, ◌⊎◌, inl, inr}
 use mathlib.Core.Bool.{Bool, true, false, ◌&&◌}
 use mathlib.Core.List.{List}
@@ -21,7 +21,7 @@ use Rattle.tables.specs.declared.trace.Trace.{Trace}
 use Rattle.text.specs.Result.Result.{refused}
 use Rattle.rule_file.specs.Valid.{Valid as FormulaValid}
 use Rattle.rule_file.proofs.Rules.{rule_written_lem}
-use Rattle.take_file.specs.Valid.{Below as LoopBelow, InRange as TraceInRange, Valid as TraceValid}
+use Rattle.take_file.specs.Valid.{Below as LoopBelow, Valid as TraceValid}
 use Rattle.take_file.proofs.Takes.{take_written_lem}
 use Rattle.sheet_file.specs.Valid.{Valid as SheetValid}
 use Rattle.sheet_file.specs.Written.{written_sheet}
@@ -33,8 +33,8 @@ use Rattle.meaning.proofs.Readings.{On, on_and_off}
 use Rattle.meaning.proofs.Truth.{every_cycle}
 use Rattle.meaning.proofs.Periodic.{position_first}
 use Rattle.meaning.proofs.Evaluation.{bits_of}
-use Rattle.meaning.specs.Covers.{CoversIn}
-use Rattle.meaning.proofs.Lasso.{lasso_bits_computed, lasso_truth}
+use Rattle.meaning.proofs.Nesting.{nested_none}
+use Rattle.meaning.proofs.Lasso.{lasso_bits_computed, lasso_truth, covers_unnested}
 use Rattle.normal_form.specs.declared.sign.Sign.TheVariants.{Plain}
 use Rattle.normal_form.specs.Form.{InNormalForm}
 use Rattle.normal_form.specs.Numbering.{normal_form}
@@ -46,16 +46,14 @@ use Rattle.writing.specs.Answer.{written_answer}
 use Rattle.writing.specs.Lent.{overlaid}
 use Rattle.judging.specs.declared.verdict.Verdict.TheVariants.{Holds}
 use Rattle.judging.specs.Verdict.{SaysOf, VerdictOf}
-use Rattle.meeting.specs.Meeting.{twelve_outcome, pair_outcome, covered_take}
-use Rattle.meeting.proofs.Covered.{twelve_coverable}
+use Rattle.meeting.specs.Meeting.{pair_outcome, covered_take}
 use Rattle.meeting.specs.declared.Wanted.TheVariants.{Either}
 use Rattle.judging.proofs.ByBits.{computed_verdict, verdict_computed}
 use Rattle.sheet_maker.specs.Made.{SatisfiedIn, Satisfied, IsMade}
 use Rattle.sheet_maker.specs.Answer.{answer_of, Answers.sheet, Makes}
 use Rattle.checking.specs.declared.finding.Finding.{Finding}
 use Rattle.checking.specs.declared.finding.CheckAnswer.TheVariants.{Checked}
-use Rattle.written_out.specs.Covered.{Coverable}
-use Rattle.written_out.proofs.Laws.{covered_range, covered_covers}
+use Rattle.written_out.proofs.Laws.{covered_itself}
 use Rattle.checking.specs.Finding.{FindingOf}
 use Rattle.checking.specs.Answer.{check_outcome, CheckAnswers}
 use Rattle.checking.proofs.Answers.{found_answer}
@@ -63,24 +61,22 @@ use Rattle.checking.proofs.ByReport.{computed_finding, finding_computed}
 
 -- ---- a check
 
--- the signals and the sizes agree, 12 is not due, and the finding is what is computed
+-- the signals and the sizes agree, and the finding is what is computed
 pub record ChecksTo (f : Formula) (t : Trace) (a : Activation) (x : Finding) : Type 0 where
   pub signals : f.signals ≡ t.signals
-  pub twelve : twelve_outcome f t ≡ Accepted
   pub rows : a.rows ≡ (normal_form f Plain).rows
-  pub cycles : a.cycles ≡ (covered_take f t).cycles
-  pub found : computed_finding (normal_form f Plain) (covered_take f t) a ≡ x
+  pub cycles : a.cycles ≡ t.cycles
+  pub found : computed_finding (normal_form f Plain) t a ≡ x
 
 module _ (f : Formula) (t : Trace) (a : Activation) (rule : FormulaValid f) (take : TraceValid t) (sheet : SheetValid a) where
   pub check_computed : (x : Finding) → ChecksTo f t a x → CheckAnswers (check_outcome f t a) f t a (Checked x)
   check_computed x c =
-      let u : Trace = covered_take f t in
-      let sizes : (eqb a.rows (normal_form f Plain).rows && eqb a.cycles u.cycles) ≡ true = rw (eq-eqb a.rows (normal_form f Plain).rows c.rows, eq-eqb a.cycles u.cycles c.cycles) refl in
+      let sizes : (eqb a.rows (normal_form f Plain).rows && eqb a.cycles t.cycles) ≡ true = rw (eq-eqb a.rows (normal_form f Plain).rows c.rows, eq-eqb a.cycles t.cycles c.cycles) refl in
+      let itself : covered_take f t ≡ t = covered_itself (normal_form f Plain) t in
       let checks : check_outcome f t a ≡ Accepted =
-      rw (rule_written_lem f rule, take_written_lem t take, sheet_written a sheet, sym (agree f.signals t.signals c.signals), c.twelve, sizes) refl in
-      let range : TraceInRange u = covered_range (normal_form f Plain) t take.range (twelve_coverable (normal_form f Plain) t t.ending c.twelve) in
+      rw (rule_written_lem f rule, take_written_lem t take, sheet_written a sheet, sym (agree f.signals t.signals c.signals), itself, sizes) refl in
       (found_answer f t a (check_outcome f t a) checks x
-      (subst (FindingOf (normal_form f Plain) u a) c.found (finding_computed (normal_form f Plain) u a range))).so
+      (subst⁻¹ (λ u. FindingOf (normal_form f Plain) u a x) itself (subst (FindingOf (normal_form f Plain) t a) c.found (finding_computed (normal_form f Plain) t a take.range)))).so
 
 -- ---- a sheet made, on a looped take
 
@@ -121,51 +117,41 @@ abbrev pub DigitsIn : NormalForm → Trace → Activation → Ending → Type 0
 DigitsIn g t a Open = ⊥
 DigitsIn g t a (Loop l) = sheet_is g t a l ≡ true
 
--- the signals and the sizes agree, the take is looped, 12 is not due, it holds, and the text is that of the sheet with the computed digits
+-- the signals and the sizes agree, the take is looped and holds, and the text is that of the sheet with the computed digits
 pub record MakesTo (text : List ℕ) (f : Formula) (t : Trace) (a : Activation) : Type 0 where
   pub signals : f.signals ≡ t.signals
-  pub twelve : twelve_outcome f t ≡ Accepted
   pub rows : a.rows ≡ (normal_form f Plain).rows
-  pub cycles : a.cycles ≡ (covered_take f t).cycles
+  pub cycles : a.cycles ≡ t.cycles
   pub holds : computed_verdict f t ≡ Holds
-  pub digits : DigitsIn (normal_form f Plain) (covered_take f t) a (covered_take f t).ending
+  pub digits : DigitsIn (normal_form f Plain) t a t.ending
   pub written : text ≡ written_sheet a
 
 module _ {text : List ℕ} (f : Formula) (t : Trace) (a : Activation) (rule : FormulaValid f) (take : TraceValid t) (valid : SheetValid a) (c : MakesTo text f t a) where
   abbrev g : NormalForm
   g = normal_form f Plain
 
-  abbrev u : Trace
-  u = covered_take f t
-
-  able : Coverable g t
-  able = twelve_coverable g t t.ending c.twelve
-
-  range : TraceInRange u
-  range = covered_range g t take.range able
-
-  told : (e : Ending) → LoopBelow u.cycles e → CoversIn g u e → DigitsIn g u a e → (k i : ℕ) → IsRow g k → i < u.cycles
-      → (activator_at a i k ≡ true) ↔ TrueIn g u e k i
-  told Open below covers d k i h l = absurd d
-  told (Loop l) below covers d k i h b =
-      let n : ℕ = u.cycles in
+  told : (e : Ending) → LoopBelow t.cycles e → DigitsIn g t a e → (k i : ℕ) → IsRow g k → i < t.cycles → (activator_at a i k ≡ true) ↔ TrueIn g t e k i
+  told Open below d k i h l = absurd d
+  told (Loop l) below d k i h b =
+      let n : ℕ = t.cycles in
       let ok : InNormalForm g = form_normal f Plain rule.in_range_lem in
       let ordered = form_ordered g ok in
+      let covers = covers_unnested n l below (signal_at t) (table_of g.places) (suc g.rows) (λ k h. nested_none (table_of g.places) k) in
       let p : suc (k - 1) ≡ k = omega (arith, h.0) in
       let same = same_bit_lem _ _ (all_below_lem n _ (all_below_lem g.rows _ d (k - 1) (omega (arith, h.0, h.1))) i b) in
-      let bit : activator_at a i k ≡ lasso_bit g u l k i = subst (λ j. activator_at a i j ≡ lasso_bit g u l j i) p same in
-      let true-there = subst (λ j. RowTrue classical (unrolled u l) (table_of g.places) k i ↔ On (lasso_bit g u l k j)) (position_first n l i b)
-      (lasso_truth n l below (signal_at u) (table_of g.places) (suc g.rows) ordered covers _
-      (lasso_bits_computed n l below (signal_at u) (table_of g.places) (suc g.rows) ordered covers) classical k (omega (arith, h.1)) i) in
+      let bit : activator_at a i k ≡ lasso_bit g t l k i = subst (λ j. activator_at a i j ≡ lasso_bit g t l j i) p same in
+      let true-there = subst (λ j. RowTrue classical (unrolled t l) (table_of g.places) k i ↔ On (lasso_bit g t l k j)) (position_first n l i b)
+      (lasso_truth n l below (signal_at t) (table_of g.places) (suc g.rows) ordered covers _
+      (lasso_bits_computed n l below (signal_at t) (table_of g.places) (suc g.rows) ordered covers) classical k (omega (arith, h.1)) i) in
       (λ x. true-there.1 (sym bit ∙ x), λ x. bit ∙ true-there.0 x)
 
-  made : IsMade g u a
-  made = record {
+  made : IsMade g (covered_take f t) a
+  made = subst⁻¹ (λ u. IsMade g u a) (covered_itself g t) (record {
     places = ap length valid.unused ∙ length_tabulate 128 0 _;
     rows = c.rows;
     cycles = c.cycles;
-    digits = told u.ending range.loop (covered_covers g t take.range able) c.digits;
-  }
+    digits = told t.ending take.range.loop c.digits;
+  })
 
   satisfied : Satisfied f t
   satisfied = by t.ending (subst (VerdictOf f t) c.holds (verdict_computed f t rule.in_range_lem take.range)).said
@@ -176,5 +162,5 @@ module _ {text : List ℕ} (f : Formula) (t : Trace) (a : Activation) (rule : Fo
 
   pub make_computed : (before : List ℕ) → Makes f t before (overlaid text before) (answer_of (written_answer text before))
   make_computed before =
-      let tables : pair_outcome Either f t ≡ Accepted = rw (rule_written_lem f rule, take_written_lem t take, sym (agree f.signals t.signals c.signals), c.twelve) refl in
+      let tables : pair_outcome Either f t ≡ Accepted = rw (rule_written_lem f rule, take_written_lem t take, sym (agree f.signals t.signals c.signals)) refl in
       rw (c.written, tables) (sheet satisfied a made refl refl)

@@ -1,3 +1,2 @@
 pub mod Case
-pub mod Past
 pub mod Table

@@ -1,7 +1,7 @@
 -- The cases that 01 marks P ("Rules and takes to try"), one row each, and some that it does not: two on `next`, that the sheet made for
 -- rule A passes, two runs (02, request 1), padded files (02, request 2), lengths (02, request 3), and such as name each word once: what
--- `judge` prints for each verdict and for a refusal in either file, and the normal forms of a rule with all fourteen words of 01; and
--- rules that look back (02, request 6). Assumes nothing.
+-- `judge` prints for each verdict and for a refusal in either file, and the normal forms of a rule with all fourteen words.
+-- Assumes nothing.
 use Prim.Native.String.{String}
 use Rattle.std.specs.Prelude.{List, [], ◌∷◌}
 use Rattle.normal_form.specs.declared.sign.Sign.TheVariants.{Plain, Negated}
@@ -10,7 +10,6 @@ use Rattle.judging.specs.declared.verdict.Verdict.TheVariants.{Holds, Breaks, Ke
 use Rattle.checking.specs.declared.finding.Finding.TheVariants.{Failed, Starved, Passes}
 use Rattle.cases.specs.Case.{File, Case, Watched}
 use Rattle.cases.specs.Case.Case.{normal_form_lem, bound, normal_length, looped, opened, prints, makes, sheet_length_lem, checks, runs}
-use Rattle.cases.specs.Past.{rule_since, rule_trigger, rule_before, rule_before_first, rule_wbefore, rule_once_sofar, normal_once_sofar, rule_past, negated_past, sheet_wbefore, loop0_0, loop0_01_10, open_01_10, open_01, open_1_0, open_0_0, rule_deep, loop0_of_4, loop1_of_5, open_of_5, printed_deep, refused_deep}
 
 abbrev pub rule_a : File
 rule_a =
@@ -300,31 +299,4 @@ cases =
     sheet_length_lem rule_a loop0_10_01 55 ∷
     sheet_length_lem rule_a loop1_10_10 0 ∷
     sheet_length_lem rule_until open_10_01 43 ∷
-    sheet_length_lem rule_until open_10_10 0 ∷
-    -- "a `since` and a `before` on open and looped takes"
-    normal_form_lem rule_once_sofar Plain normal_once_sofar ∷
-    normal_form_lem rule_past Plain rule_past ∷
-    normal_form_lem rule_past Negated negated_past ∷
-    opened rule_since open_01_10 Kept ∷
-    opened rule_since open_10_10 Broken ∷
-    opened rule_since open_01 Open ∷
-    opened rule_trigger open_01_10 Broken ∷
-    looped rule_since loop0_01_10 Holds ∷
-    looped rule_since loop1_10_10 Breaks ∷
-    opened rule_before open_1_0 Kept ∷
-    opened rule_before open_0_0 Broken ∷
-    opened rule_before open_1 Open ∷
-    opened rule_before_first open_1 Broken ∷
-    looped rule_before loop0_1 Holds ∷
-    looped rule_before_first loop0_1 Breaks ∷
-    runs rule_since (behind "01" Open ∷ behind "10" Kept ∷ []) ∷
-    -- "`wbefore p1` on 0, loop 0 holds and has a sheet of its written-out form"
-    opened rule_wbefore open_0 Kept ∷
-    looped rule_wbefore loop0_0 Holds ∷
-    makes rule_wbefore loop0_0 sheet_wbefore ∷
-    checks rule_wbefore loop0_0 sheet_wbefore Passes ∷
-    sheet_length_lem rule_wbefore loop0_0 37 ∷
-    -- "a take turned away by 12 and its neighbour that is not"; an open one never is
-    prints rule_deep loop0_of_4 printed_deep ∷
-    prints rule_deep loop1_of_5 refused_deep ∷
-    opened rule_deep open_of_5 Kept ∷ []
+    sheet_length_lem rule_until open_10_10 0 ∷ []

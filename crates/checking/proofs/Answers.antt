@@ -82,7 +82,7 @@ module _ (f : Formula) (t : Trace) (a : Activation) where
   told_checked (Refused y) p e = absurd (subst IsChecked (sym e ∙ p) tt)
   told_checked Accepted (y, p, is) e = (refl, subst (FindingOf (normal_form f Plain) (covered_take f t) a) (ap finding_in (sym p ∙ e)) is)
 
-  -- "file and line 0 for 7 to 10", and for 12
+  -- "file and line 0 for 7 to 10"
   pub met_line : {x : Refusal} → met_outcome f t a ≡ Refused x → x.line ≡ 0
   unfolding line_in
   met_line {x} e = by (meeting_outcome Either f t) refl e

@@ -28,7 +28,7 @@ use Rattle.row_monitor.specs.RowReport.{RowReportOf}
 use Rattle.checking.specs.Survey.{noted, SurveyTo}
 use Rattle.checking.specs.Finding.{FindingOf}
 use Rattle.checking.specs.Conclusion.{course_of, concluded}
-use Rattle.row_monitor.proofs.ReportLoop.{state_from, ReportTo, report_start, report_fails, report_goes, report_ends}
+use Rattle.row_monitor.proofs.ReportLoop.{ReportTo, report_start, report_fails, report_goes, report_ends}
 use Rattle.checking.proofs.SurveyLoop.{ReadsOf, reads_of, survey_start, survey_next}
 use Rattle.checking.proofs.Findings.{root_only, finding_by}
 use Rattle.checking.proofs.Conclusions.{concluded_finding}
@@ -39,19 +39,19 @@ module _ (row : Row) (reads : Reads) (course : Course) where
   abbrev pub Reported : Type 0
   Reported = (report : RowReport) × RowReportOf row reads course report
 
-  unfoldable pub report_from : (left i c : ℕ) (memory : Bool) (report : RowReport) → i + left ≡ course.end → ReportTo row reads course i c memory report → Reported
-  report_from zero i c memory report e to = (report, report_ends row reads course to (omega arith))
-  report_from (suc left) i c memory report e to = by said.failed refl (λ f. report_from left (i + 1) _ _ _ (omega arith) (report_goes row reads course to (omega arith) {said = said} refl f refl))
+  unfoldable pub report_from : (left i c : ℕ) (report : RowReport) → i + left ≡ course.end → ReportTo row reads course i c report → Reported
+  report_from zero i c report e to = (report, report_ends row reads course to (omega arith))
+  report_from (suc left) i c report e to = by said.failed refl (λ f. report_from left (i + 1) _ _ (omega arith) (report_goes row reads course to (omega arith) {said = said} refl f refl))
     where
       said : Output
-      said = row_monitor row (bit_at reads.first c) (bit_at reads.second c) (state_from reads i c report.pending memory)
+      said = row_monitor row (bit_at reads.first c) (bit_at reads.second c) (record { active = bit_at reads.active c; pending = report.pending })
 
       by : (b : Bool) → said.failed ≡ b → (said.failed ≡ false → Reported) → Reported
       by true f goes = (_, report_fails row reads course to (omega arith) {said = said} refl f)
       by false f goes = goes f
 
   unfoldable pub reported : Reported
-  reported = report_from course.end 0 0 false _ (omega arith) (report_start row reads course)
+  reported = report_from course.end 0 0 _ (omega arith) (report_start row reads course)
 
 -- ---- all rows
 

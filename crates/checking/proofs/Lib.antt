@@ -5,4 +5,3 @@ pub mod Answers
 pub mod Demand
 pub mod ByReport
 pub mod Bounds
-pub mod Endless

@@ -1,6 +1,6 @@
 -- The loop over the rows: what each row's report adds to the survey. Assumes nothing.
 use Prim.Native.Nat.{ℕ, zero, suc, ◌+◌, ◌-◌, ◌≤◌, ◌<◌}
-use mathlib.Core.Path.{◌≡◌, refl, sym, ap, ap₂, subst, subst⁻¹, ◌∙◌}
+use mathlib.Core.Path.{◌≡◌, refl, sym, ap, subst, subst⁻¹, ◌∙◌}
 use mathlib.Core.Logic.{◌⊎◌, inl, inr}
 use mathlib.Core.Bool.{Bool, true, false, not, ◌&&◌}
 use mathlib.Core.List.{List, []}
@@ -23,15 +23,14 @@ use Rattle.meaning.specs.Satisfaction.{table_of}
 use Rattle.monitors.specs.declared.Output.{Output}
 use Rattle.monitors.specs.declared.RowState.{RowState}
 use Rattle.monitors.specs.Monitor.{row_monitor, monitor}
-use Rattle.monitors.specs.State.{row_state}
 use Rattle.monitors.specs.Along.{state_before}
 use Rattle.monitors.specs.Sheet.{activator_at}
 use Rattle.row_monitor.specs.declared.row.Course.{Course}
 use Rattle.row_monitor.specs.declared.row.Reads.{Reads}
 use Rattle.row_monitor.specs.declared.row.RowReport.{RowReport}
 use Rattle.checking.specs.declared.survey.Survey.{Survey}
-use Rattle.row_monitor.specs.RowReport.{handed_on, row_in, course_row, course_output, RowReportOf}
-use Rattle.checking.specs.Survey.{noted, LowestOf, course_trace, course_activators, said, waiting, Accepts, Starves, SurveyTo}
+use Rattle.row_monitor.specs.RowReport.{row_pending, course_output, course_pending, RowReportOf}
+use Rattle.checking.specs.Survey.{noted, LowestOf, said, waiting, Accepts, Starves, SurveyTo}
 
 -- ---- the first bad one
 
@@ -101,32 +100,22 @@ module _ (t : Trace) (a : Activation) where
   at_numbers (Binary k b d) x n c s = ap (λ (l : Lane). row_monitor (Binary k b d) (bit_at l c) (bit_at x.second c) s) n.0 ∙ ap (λ (l : Lane). row_monitor (Binary k b d) (bit_at (lane_or a.lanes b) c) (bit_at l c) s) n.1
 
   module _ (g : NormalForm) (course : Course) (k : ℕ) (x : Reads) (reads : ReadsOf (table_of g.places k) k x) where
-    abbrev row : Row
-    row = table_of g.places k
+    step : (i : ℕ) (p q : Bool) → p ≡ q → let c = position course.cycles course.start i in
+        row_monitor (table_of g.places k) (bit_at x.first c) (bit_at x.second c) (record { active = bit_at x.active c; pending = p })
+        ≡ monitor (activator_at a c) (signal_at t c) (table_of g.places k) (record { active = activator_at a c k; pending = q })
+    step i p q e =
+        let c : ℕ = position course.cycles course.start i in
+        at_numbers (table_of g.places k) x reads.numbers c (record { active = bit_at x.active c; pending = p })
+        ∙ ap (λ (l : Lane). monitor (activator_at a c) (signal_at t c) (table_of g.places k) (record { active = bit_at l c; pending = p })) reads.own
+        ∙ ap (λ b. monitor (activator_at a c) (signal_at t c) (table_of g.places k) (record { active = activator_at a c k; pending = b })) e
 
-    abbrev at : ℕ → ℕ
-    at = position course.cycles course.start
+    pub pending_same : (i : ℕ) → course_pending (table_of g.places k) x course i ≡ waiting g t a course i k
+    unfolding row_pending state_before
+    pending_same zero = refl
+    pending_same (suc i) = ap (λ (o : Output). o.pending) (step i _ _ (pending_same i))
 
-    -- the row itself among all rows
-    abbrev among : ℕ → RowState
-    among i = row_state (course_activators g t a course i) (state_before (table_of g.places) (course_trace g t a course) (course_activators g t a course) i) k
-
-    own_active : (i : ℕ) → bit_at x.active (at i) ≡ activator_at a (at i) k
-    own_active i = ap (λ (l : Lane). bit_at l (at i)) reads.own
-
-    output_from_lem : (i : ℕ) → course_row row x course i ≡ among i → course_output row x course i ≡ said g t a course i k
-    output_from_lem i e = at_numbers row x reads.numbers (at i) (course_row row x course i) ∙ ap (monitor (activator_at a (at i)) (signal_at t (at i)) row) e
-
-    row_same : (i : ℕ) → course_row row x course i ≡ among i
-    unfolding row_in state_before
-    row_same zero = ap (λ z. record { active = z; pending = false; memory = false; initial = true }) (own_active 0)
-    row_same (suc i) = ap₂ handed_on (output_from_lem i (row_same i)) (own_active (suc i))
-
-    pub pending_same : (i : ℕ) → (course_row row x course i).pending ≡ waiting g t a course i k
-    pending_same i = ap (λ (s : RowState). s.pending) (row_same i)
-
-    pub output_same : (i : ℕ) → course_output row x course i ≡ said g t a course i k
-    output_same i = output_from_lem i (row_same i)
+    pub output_same : (i : ℕ) → course_output (table_of g.places k) x course i ≡ said g t a course i k
+    output_same i = step i _ _ (pending_same i)
 
 -- ---- one row more
 

@@ -31,7 +31,7 @@ sizes_outcome g t a = pick (eqb a.rows g.rows && eqb a.cycles t.cycles) Accepted
 abbrev pub nine_outcome : Formula → Trace → Activation → Outcome
 nine_outcome f t a = sizes_outcome (normal_form f Plain) (covered_take f t) a
 
--- "Then 7 to 10 in order", and 12 "after 8": of tables that have passed their own checks, and of any
+-- "Then 7 to 10 in order": of tables that have passed their own checks, and of any
 abbrev pub met_outcome : Formula → Trace → Activation → Outcome
 met_outcome f t a = and_then (meeting_outcome Either f t) (nine_outcome f t a)
 

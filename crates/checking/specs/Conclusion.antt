@@ -8,8 +8,8 @@ use Rattle.checking.specs.declared.finding.Finding.TheVariants.{Failed, Starved,
 use Rattle.row_monitor.specs.declared.row.Course.{Course}
 use Rattle.checking.specs.declared.survey.Survey.{Survey}
 
--- an open take once; a looped one with one round of its loop more, in which accepts count: after the first round the pendings and
--- memories with which the loop is entered repeat
+-- an open take once; a looped one with one round of its loop more, in which accepts count: after the first round the pendings with
+-- which the loop is entered repeat
 abbrev pub course_of : ℕ → Ending → Course
 course_of n Open = record { cycles = n; start = 0; from = n; end = n }
 course_of n (Loop l) = record { cycles = n; start = l; from = n; end = n + (n - l) }

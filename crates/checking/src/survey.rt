@@ -52,7 +52,7 @@ fn note(survey: Survey, number: u8, report: RowReport) -> Survey
     }
 }
 
-// Rows are independent of one another: a monitor reads its own pending and memory, and all rows' activators, which the sheet gives.
+// Rows are independent of one another: a monitor reads its own pending and all rows' activators, which the sheet gives.
 pub fn survey_rows(form: NormalForm, trace: Trace, sheet: Activation, course: Course) -> Survey
     requires { InNormalForm form × CourseOf course }
     ensures survey { SurveyTo form trace sheet course form.rows result }

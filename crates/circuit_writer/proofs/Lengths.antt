@@ -23,17 +23,15 @@ use Rattle.writing.proofs.Room.{room_enough}
 use Rattle.writing.proofs.Lengths.{decimal_most, decimal_two_most}
 use Rattle.writing.proofs.Texts.{decimal_more_length}
 use Rattle.circuit_file.specs.Written.{lines_of, spaced, written_circuit, written_lines}
-use Rattle.monitor_circuit.specs.Monitors.{circuit_of, latch_count}
-use Rattle.monitor_circuit.proofs.GateRows.{first_gate, second_gate, third_gate, fourth_gate}
+use Rattle.monitor_circuit.specs.Monitors.{circuit_of, latch_count, wiring_of}
+use Rattle.monitor_circuit.proofs.GateRows.{first_gate, second_gate, third_gate}
 use Rattle.circuit_writer.specs.Answer.{circuit_text, writer_answer}
-use Rattle.circuit_writer.specs.Section.{gate_lines, input_lines, kept_latch, kept_lines, latch_lines, output_lines, said_lines}
-use Rattle.circuit_writer.specs.declared.section.Kept.{Kept}
-use Rattle.circuit_writer.specs.declared.section.Kept.TheVariants.{Pending as KeptPending, Memory}
+use Rattle.circuit_writer.specs.Section.{gate_lines, input_lines, latch_lines, output_lines, said_lines}
 use Rattle.circuit_writer.specs.declared.section.Said.{Said}
 use Rattle.circuit_writer.specs.declared.section.Said.TheVariants.{Failed, Accept, Pending}
 use Rattle.line_writer.proofs.Lines.{Blocks, blocks_to, lines_append}
-use Rattle.circuit_writer.proofs.Sections.{gate_blocks, gate_block, gate_line, input_blocks, input_block, kept_blocks, kept_block, latches_parted, mark_line, outputs_parted, said_blocks, said_block}
-use Rattle.circuit_writer.proofs.Small.{FourDigits, gate_small, latch_small, mark_small, row_small, said_small}
+use Rattle.circuit_writer.proofs.Sections.{gate_blocks, gate_block, gate_line, input_blocks, input_block, latch_blocks, latch_block, outputs_parted, said_blocks, said_block}
+use Rattle.circuit_writer.proofs.Small.{FourDigits, gate_small, latch_small, row_small, said_small}
 use Rattle.circuit_writer.proofs.Whole.{file_parted, header_numbers}
 
 -- ---- lines of numbers of four digits at most: five bytes for each number
@@ -81,26 +79,10 @@ module _ (g : NormalForm) (ok : InNormalForm g) where
       section_most input_block 5 (g.signals + g.rows) (input_blocks g)
       (λ i h. line_most (2 * suc i) [] (omega (arith, ok.most_signals, ok.most_rows)) tt)
 
-  kept_small : (kept : Kept) (i : ℕ) → i < g.rows → FourDigits (kept_latch kept g (suc i)).current × FourDigits (kept_latch kept g (suc i)).next
-  kept_small KeptPending i h = (latch_small g ok h KeptPending, (row_small g ok h).small_pending)
-  kept_small Memory i h = (latch_small g ok h Memory, (row_small g ok h).small_memory)
-
-  kept_most : (kept : Kept) → length (written_lines (kept_lines kept g)) ≤ g.rows * 10
-  kept_most kept =
-      section_most (kept_block g kept) 10 g.rows (kept_blocks g kept)
-      (λ i h. line_most _ ((kept_latch kept g (suc i)).next ∷ []) (kept_small kept i h).0 ((kept_small kept i h).1, tt))
-
-  latches_most : length (written_lines (latch_lines g)) ≤ g.rows * 20 + 10
+  latches_most : length (written_lines (latch_lines g)) ≤ g.rows * 10
   latches_most =
-      rw (← latches_parted g)
-      (omega (
-        arith,
-        lines_length (kept_lines KeptPending g) (kept_lines Memory g ++ (mark_line g ∷ [])),
-        lines_length (kept_lines Memory g) (mark_line g ∷ []),
-        kept_most KeptPending,
-        kept_most Memory,
-        line_most _ (1 ∷ []) (mark_small g ok) (omega arith, tt),
-      ))
+      section_most (latch_block g) 10 g.rows (latch_blocks g)
+      (λ i h. line_most _ ((wiring_of g (suc i)).pending ∷ []) (latch_small g ok h) ((row_small g ok h).small_pending, tt))
 
   said_most : (said : Said) → length (written_lines (said_lines said g)) ≤ g.rows * 5
   said_most said = section_most (said_block g said) 5 g.rows (said_blocks g said) (λ i h. line_most _ [] (said_small said (row_small g ok h)) tt)
@@ -117,25 +99,22 @@ module _ (g : NormalForm) (ok : InNormalForm g) where
         said_most Pending,
       ))
 
-  gates_most : length (written_lines (gate_lines g)) ≤ g.rows * 60
-  gates_most = section_most (gate_block g) 60 g.rows (gate_blocks g) each
+  gates_most : length (written_lines (gate_lines g)) ≤ g.rows * 45
+  gates_most = section_most (gate_block g) 45 g.rows (gate_blocks g) each
     where
-      each : (i : ℕ) → i < g.rows → length (written_lines (gate_block g i)) ≤ 60
+      each : (i : ℕ) → i < g.rows → length (written_lines (gate_block g i)) ≤ 45
       each i h =
           let s = row_small g ok h in
           let x = first_gate g (suc i) in
           let y = second_gate g (suc i) in
           let z = third_gate g (suc i) in
-          let u = fourth_gate g (suc i) in
           omega (
             arith,
-            lines_length (gate_line x ∷ []) (gate_line y ∷ gate_line z ∷ gate_line u ∷ []),
-            lines_length (gate_line y ∷ []) (gate_line z ∷ gate_line u ∷ []),
-            lines_length (gate_line z ∷ []) (gate_line u ∷ []),
+            lines_length (gate_line x ∷ []) (gate_line y ∷ gate_line z ∷ []),
+            lines_length (gate_line y ∷ []) (gate_line z ∷ []),
             line_most x.lhs (x.rhs0 ∷ x.rhs1 ∷ []) (gate_small g ok h 1 (omega arith)) (s.small_first.small_rhs0, (s.small_first.small_rhs1, tt)),
             line_most y.lhs (y.rhs0 ∷ y.rhs1 ∷ []) (gate_small g ok h 2 (omega arith)) (s.small_second.small_rhs0, (s.small_second.small_rhs1, tt)),
             line_most z.lhs (z.rhs0 ∷ z.rhs1 ∷ []) (gate_small g ok h 3 (omega arith)) (s.small_third.small_rhs0, (s.small_third.small_rhs1, tt)),
-            line_most u.lhs (u.rhs0 ∷ u.rhs1 ∷ []) (gate_small g ok h 4 (omega arith)) (s.small_fourth.small_rhs0, (s.small_fourth.small_rhs1, tt)),
           )
 
   -- `aag ` and five numbers
@@ -143,11 +122,11 @@ module _ (g : NormalForm) (ok : InNormalForm g) where
   header_most =
       omega (
         arith,
-        line_most (g.signals + g.rows + latch_count g + 4 * g.rows) ((g.signals + g.rows) ∷ latch_count g ∷ 3 * g.rows ∷ 4 * g.rows ∷ []) (omega (arith, ok.most_signals, ok.most_rows))
+        line_most (g.signals + g.rows + latch_count g + 3 * g.rows) ((g.signals + g.rows) ∷ latch_count g ∷ 3 * g.rows ∷ 3 * g.rows ∷ []) (omega (arith, ok.most_signals, ok.most_rows))
             (omega (arith, ok.most_signals, ok.most_rows), (omega (arith, ok.most_rows), (omega (arith, ok.most_rows), (omega (arith, ok.most_rows), tt)))),
       )
 
-  lines_most : length (written_lines (lines_of (circuit_of g))) ≤ (g.signals + g.rows) * 5 + g.rows * 95 + 10
+  lines_most : length (written_lines (lines_of (circuit_of g))) ≤ (g.signals + g.rows) * 5 + g.rows * 70
   lines_most =
       omega (
         arith,
@@ -160,17 +139,17 @@ module _ (g : NormalForm) (ok : InNormalForm g) where
         gates_most,
       )
 
-  pub form_most : length (written_circuit (circuit_of g)) ≤ 39 + 5 * g.signals + 100 * g.rows
+  pub form_most : length (written_circuit (circuit_of g)) ≤ 29 + 5 * g.signals + 75 * g.rows
   form_most =
       rw (← file_parted g)
       (omega (arith, length-append (bytes "aag " ++ written_lines (header_numbers g ∷ [])) (written_lines (lines_of (circuit_of g))), header_most, lines_most))
 
--- THE FILE OF A RULE'S CIRCUIT HAS AT MOST 12,999 BYTES: 32 signals and 128 rows
-pub circuit_most : (f : Formula) → InRange f → length (circuit_text f) ≤ 12999
+-- THE FILE OF A RULE'S CIRCUIT HAS AT MOST 9,789 BYTES: 32 signals and 128 rows
+pub circuit_most : (f : Formula) → InRange f → length (circuit_text f) ≤ 9789
 circuit_most f ok =
     let n = form_normal f Plain ok in
     omega (arith, form_most (normal_form f Plain) n, n.most_signals, n.most_rows)
 
 -- SO MANY BYTES LENT, AND THE WRITER ANSWERS, for every rule that passes its own check
-pub circuit_enough : (f : Formula) (buf : List ℕ) → rule_outcome f ≡ Accepted → 12999 ≤ length buf → writer_answer f buf ≡ Count (length (circuit_text f))
+pub circuit_enough : (f : Formula) (buf : List ℕ) → rule_outcome f ≡ Accepted → 9789 ≤ length buf → writer_answer f buf ≡ Count (length (circuit_text f))
 circuit_enough f buf own room = rw own (room_enough (circuit_text f) buf (omega (arith, circuit_most f (checked f own))))

@@ -16,14 +16,12 @@ use Rattle.writing.proofs.Texts.{wrote_is}
 use Rattle.circuit_file.specs.Written.{written_lines}
 use Rattle.monitor_circuit.specs.Wiring.{Operands, Wiring as MeantWiring}
 use Rattle.monitor_circuit.specs.Monitors.{gates_from, latches_of, wiring_of}
-use Rattle.monitor_circuit.proofs.GateRows.{first_gate, second_gate, third_gate, fourth_gate}
+use Rattle.monitor_circuit.proofs.GateRows.{first_gate, second_gate, third_gate}
 use Rattle.monitor_circuit.proofs.WellFormed.{inputs_are}
 use Rattle.row_wiring.specs.declared.Own.{Own}
 use Rattle.row_wiring.specs.declared.Wiring.{Wiring}
-use Rattle.row_wiring.specs.Own.{later_of, own_of, wiring_as, wiring_at}
-use Rattle.circuit_writer.specs.Section.{gate_lines, input_lines, kept_latch, kept_lines, latch_lines, latch_of, next_of, output_lines, said_lines, said_of}
-use Rattle.circuit_writer.specs.declared.section.Kept.{Kept}
-use Rattle.circuit_writer.specs.declared.section.Kept.TheVariants.{Pending as KeptPending, Memory}
+use Rattle.row_wiring.specs.Own.{own_of, wiring_as, wiring_at}
+use Rattle.circuit_writer.specs.Section.{gate_lines, input_lines, latch_lines, output_lines, said_lines, said_of}
 use Rattle.circuit_writer.specs.declared.section.Said.{Said}
 use Rattle.circuit_writer.specs.declared.section.Said.TheVariants.{Failed, Accept, Pending}
 use Rattle.line_writer.proofs.Lines.{Blocks, PutTo, blocks_to, more_lines, put_more, single_blocks}
@@ -38,14 +36,14 @@ abbrev pub gate_line : Gate → List ℕ
 gate_line e = e.lhs ∷ e.rhs0 ∷ e.rhs1 ∷ []
 
 module _ (g : NormalForm) where
-  abbrev pub kept_block : Kept → Blocks
-  kept_block kept i = latch_line (kept_latch kept g (suc i)) ∷ []
+  abbrev pub latch_block : Blocks
+  latch_block i = latch_line ((latches_of g).pending (suc i)) ∷ []
 
   abbrev pub said_block : Said → Blocks
   said_block said i = (said_of said (wiring_of g (suc i)) ∷ []) ∷ []
 
   abbrev pub gate_block : Blocks
-  gate_block i = gate_line (first_gate g (suc i)) ∷ gate_line (second_gate g (suc i)) ∷ gate_line (third_gate g (suc i)) ∷ gate_line (fourth_gate g (suc i)) ∷ []
+  gate_block i = gate_line (first_gate g (suc i)) ∷ gate_line (second_gate g (suc i)) ∷ gate_line (third_gate g (suc i)) ∷ []
 
   -- ---- all of them are the section
 
@@ -54,20 +52,10 @@ module _ (g : NormalForm) where
       let n = g.signals + g.rows in
       single_blocks (λ i. 2 * suc i ∷ []) n ∙ sym (ap (map (λ l. l ∷ [])) (inputs_are g) ∙ map_tabulate (λ l. l ∷ []) n (λ i. 2 * suc i))
 
-  pub kept_blocks : (kept : Kept) → blocks_to (kept_block kept) g.rows ≡ kept_lines kept g
-  kept_blocks kept =
-      single_blocks (λ i. latch_line (kept_latch kept g (suc i))) g.rows
-      ∙ sym (map_tabulate latch_line g.rows (λ i. kept_latch kept g (suc i)))
-
-  -- the line of the mark
-  abbrev pub mark_line : List ℕ
-  mark_line = later_of g.signals g.rows ∷ 1 ∷ []
-
-  pub latches_parted : kept_lines KeptPending g ++ (kept_lines Memory g ++ (mark_line ∷ [])) ≡ latch_lines g
-  latches_parted =
-      let by : Kept → List Latch = λ kept. tabulate g.rows (λ i. kept_latch kept g (suc i)) in
-      ap (λ t. kept_lines KeptPending g ++ t) (sym (map-append latch_line (by Memory) ((latches_of g).initial ∷ [])))
-      ∙ sym (map-append latch_line (by KeptPending) (by Memory ++ ((latches_of g).initial ∷ [])))
+  pub latch_blocks : blocks_to latch_block g.rows ≡ latch_lines g
+  latch_blocks =
+      single_blocks (λ i. latch_line ((latches_of g).pending (suc i))) g.rows
+      ∙ sym (map_tabulate latch_line g.rows (λ i. (latches_of g).pending (suc i)))
 
   pub said_blocks : (said : Said) → blocks_to (said_block said) g.rows ≡ said_lines said g
   said_blocks said =
@@ -75,24 +63,22 @@ module _ (g : NormalForm) where
       ∙ sym (map_tabulate (λ l. l ∷ []) g.rows (λ i. said_of said (wiring_of g (suc i))))
 
   -- the gates of the last row stand last
-  abbrev row_gates : ℕ → List Gate
-  row_gates k = first_gate g k ∷ second_gate g k ∷ third_gate g k ∷ fourth_gate g k ∷ []
-
-  gates_last : (n k : ℕ) → gates_from g n k ++ row_gates (k + n) ≡ gates_from g (suc n) k
+  gates_last : (n k : ℕ) → gates_from g n k ++ (first_gate g (k + n) ∷ second_gate g (k + n) ∷ third_gate g (k + n) ∷ []) ≡ gates_from g (suc n) k
   unfolding gates_from
   gates_last zero k = let e : k + 0 ≡ k = omega arith in rw e
   gates_last (suc n) k =
       let e : k + suc n ≡ suc k + n = omega arith in
-      rw e (ap (λ l. row_gates k ++ l) (gates_last n (suc k)))
+      rw e (ap (λ l. first_gate g k ∷ second_gate g k ∷ third_gate g k ∷ l) (gates_last n (suc k)))
 
   gates_to : (n : ℕ) → blocks_to gate_block n ≡ map gate_line (gates_from g n 1)
   unfolding blocks_to gates_from
   gates_to zero = refl
   gates_to (suc n) =
       let e : 1 + n ≡ suc n = omega arith in
-      let l : gates_from g n 1 ++ row_gates (suc n) ≡ gates_from g (suc n) 1 = rw e at (gates_last n 1) in
+      let l : gates_from g n 1 ++ (first_gate g (suc n) ∷ second_gate g (suc n) ∷ third_gate g (suc n) ∷ []) ≡ gates_from g (suc n) 1
+      = rw e at (gates_last n 1) in
       ap (λ t. t ++ gate_block n) (gates_to n)
-      ∙ (sym (map-append gate_line (gates_from g n 1) (row_gates (suc n))) ∙ ap (map gate_line) l)
+      ∙ (sym (map-append gate_line (gates_from g n 1) (first_gate g (suc n) ∷ second_gate g (suc n) ∷ third_gate g (suc n) ∷ [])) ∙ ap (map gate_line) l)
 
   pub gate_blocks : blocks_to gate_block g.rows ≡ gate_lines g
   gate_blocks = gates_to g.rows
@@ -121,33 +107,25 @@ module _ (g : NormalForm) where
     of_own : (x : Own → ℕ) → x own ≡ x (own_of g.signals g.rows (suc k))
     of_own x = ap x (eo ∙ ap (own_of g.signals g.rows) (add-one k))
 
-    kept_line : (kept : Kept) → latch_of kept own ∷ next_of kept (wiring_as wiring) ∷ [] ≡ latch_line (kept_latch kept g (suc k))
-    kept_line KeptPending = ap₂ (λ x y. x ∷ y ∷ []) (of_own (λ o. o.pending)) (of_row_lem (λ r. r.pending))
-    kept_line Memory = ap₂ (λ x y. x ∷ y ∷ []) (of_own (λ o. o.memory)) (of_row_lem (λ r. r.memory))
-
-    pub kept_more : {before now next : List ℕ} {at e f x y : ℕ} (kept : Kept) → x ≡ latch_of kept own → y ≡ next_of kept (wiring_as wiring)
-        → PutTo (kept_block kept) 12 before at k now e → Wrote now e (written_lines ((x ∷ y ∷ []) ∷ [])) next f → f ≤ e + 12
-        → PutTo (kept_block kept) 12 before at (k + 1) next f
-    kept_more kept ex ey p w h =
-        put_more p (wrote_is (ap₂ (λ x y. written_lines ((x ∷ y ∷ []) ∷ [])) ex ey ∙ ap (λ l. written_lines (l ∷ [])) (kept_line kept)) w) h
+    pub latch_more : {before now next : List ℕ} {at e f : ℕ} → PutTo latch_block 12 before at k now e → Wrote now e (written_lines ((own.latch ∷ wiring.pending ∷ []) ∷ [])) next f → f ≤ e + 12
+        → PutTo latch_block 12 before at (k + 1) next f
+    latch_more p w h =
+        put_more p (wrote_is (ap₂ (λ x y. written_lines ((x ∷ y ∷ []) ∷ [])) (of_own (λ o. o.latch)) (of_row_lem (λ r. r.pending))) w) h
 
     gate_is : {before now : List ℕ} {at e : ℕ} (x : Own → ℕ) (y : MeantWiring → Operands)
         → Wrote before at (written_lines ((x own ∷ (y (wiring_as wiring)).rhs0 ∷ (y (wiring_as wiring)).rhs1 ∷ []) ∷ [])) now e
         → Wrote before at (written_lines ((x (own_of g.signals g.rows (suc k)) ∷ (y (wiring_of g (suc k))).rhs0 ∷ (y (wiring_of g (suc k))).rhs1 ∷ []) ∷ [])) now e
     gate_is x y w = wrote_is (ap₂ (λ l (o : Operands). written_lines ((l ∷ o.rhs0 ∷ o.rhs1 ∷ []) ∷ [])) (of_own x) (of_row_lem y)) w
 
-    pub gate_more : {before now one two three next : List ℕ} {at e a b c f : ℕ} → PutTo gate_block 72 before at k now e
+    pub gate_more : {before now one two next : List ℕ} {at e a b f : ℕ} → PutTo gate_block 54 before at k now e
         → Wrote now e (written_lines ((own.first ∷ wiring.first.rhs0 ∷ wiring.first.rhs1 ∷ []) ∷ [])) one a → a ≤ e + 18
         → Wrote one a (written_lines ((own.second ∷ wiring.second.rhs0 ∷ wiring.second.rhs1 ∷ []) ∷ [])) two b → b ≤ a + 18
-        → Wrote two b (written_lines ((own.third ∷ wiring.third.rhs0 ∷ wiring.third.rhs1 ∷ []) ∷ [])) three c → c ≤ b + 18
-        → Wrote three c (written_lines ((own.fourth ∷ wiring.fourth.rhs0 ∷ wiring.fourth.rhs1 ∷ []) ∷ [])) next f → f ≤ c + 18
-        → PutTo gate_block 72 before at (k + 1) next f
-    gate_more p w1 h1 w2 h2 w3 h3 w4 h4 =
-        let line : Gate → List (List ℕ) = λ x. gate_line x ∷ [] in
+        → Wrote two b (written_lines ((own.third ∷ wiring.third.rhs0 ∷ wiring.third.rhs1 ∷ []) ∷ [])) next f → f ≤ b + 18
+        → PutTo gate_block 54 before at (k + 1) next f
+    gate_more p w h w' h' w'' h'' =
         put_more p
-        (more_lines (line (first_gate g (suc k))) (gate_line (second_gate g (suc k)) ∷ gate_line (third_gate g (suc k)) ∷ line (fourth_gate g (suc k))) (gate_is (λ o. o.first) (λ r. r.first) w1)
-        (more_lines (line (second_gate g (suc k))) (gate_line (third_gate g (suc k)) ∷ line (fourth_gate g (suc k))) (gate_is (λ o. o.second) (λ r. r.second) w2)
-        (more_lines (line (third_gate g (suc k))) (line (fourth_gate g (suc k))) (gate_is (λ o. o.third) (λ r. r.third) w3) (gate_is (λ o. o.fourth) (λ r. r.fourth) w4))))
+        (more_lines (gate_line (first_gate g (suc k)) ∷ []) (gate_line (second_gate g (suc k)) ∷ gate_line (third_gate g (suc k)) ∷ []) (gate_is (λ o. o.first) (λ r. r.first) w)
+        (more_lines (gate_line (second_gate g (suc k)) ∷ []) (gate_line (third_gate g (suc k)) ∷ []) (gate_is (λ o. o.second) (λ r. r.second) w') (gate_is (λ o. o.third) (λ r. r.third) w'')))
         (omega arith)
 
   pub said_more : {before now next : List ℕ} {at k e f : ℕ} (said : Said) {wiring : Wiring} {l : ℕ} → wiring_as wiring ≡ read_wiring k → l ≡ said_of said (wiring_as wiring)

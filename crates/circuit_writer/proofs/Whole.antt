@@ -15,7 +15,7 @@ use Rattle.line_writer.proofs.Lines.{lines_append, more_lines}
 module _ (g : NormalForm) where
   -- the header's numbers from those of signals and rows
   abbrev pub header_numbers : List ℕ
-  header_numbers = (g.signals + g.rows + latch_count g + 4 * g.rows) ∷ (g.signals + g.rows) ∷ latch_count g ∷ 3 * g.rows ∷ 4 * g.rows ∷ []
+  header_numbers = (g.signals + g.rows + latch_count g + 3 * g.rows) ∷ (g.signals + g.rows) ∷ latch_count g ∷ 3 * g.rows ∷ 3 * g.rows ∷ []
 
   pub header_is : header_numbers ≡ header_of (circuit_of g)
   header_is = sym (rw (maximum_is g, inputs_size g, latches_size g, outputs_size g, gates_size g))
@@ -31,7 +31,7 @@ module _ (g : NormalForm) where
   -- the header has the numbers m i l o a
   pub circuit_put : {before a b c d after : List ℕ} {i j k l end numberM numberI number_l numberO numberA : ℕ}
       → Wrote before 0 (bytes "aag " ++ written_lines ((numberM ∷ numberI ∷ number_l ∷ numberO ∷ numberA ∷ []) ∷ [])) a i
-      → (numberM ≡ g.signals + g.rows + latch_count g + 4 * g.rows) × (numberI ≡ g.signals + g.rows) × (number_l ≡ latch_count g) × (numberO ≡ 3 * g.rows) × (numberA ≡ 4 * g.rows)
+      → (numberM ≡ g.signals + g.rows + latch_count g + 3 * g.rows) × (numberI ≡ g.signals + g.rows) × (number_l ≡ latch_count g) × (numberO ≡ 3 * g.rows) × (numberA ≡ 3 * g.rows)
       → Wrote a i (written_lines (input_lines g)) b j → Wrote b j (written_lines (latch_lines g)) c k → Wrote c k (written_lines (output_lines g)) d l
       → Wrote d l (written_lines (gate_lines g)) after end → Wrote before 0 (written_circuit (circuit_of g)) after end
   circuit_put {before} {a} {i = at} {numberM = m} {numberI = i} {number_l = l} {numberO = o} {numberA = n} header e inputs latches outputs gates =

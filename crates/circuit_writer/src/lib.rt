@@ -1,4 +1,4 @@
-// The file of a rule's circuit, into a lent buffer (02, 4 and 6).
+// The file of a rule's circuit, into a lent buffer (02, 4).
 ghost use Rattle.std.specs.Prelude.{◌≡◌, ◌≤◌, length};
 ghost use Rattle.rule_file.specs.Valid.{InRange};
 ghost use Rattle.normal_form.specs.Form.{InNormalForm};
@@ -16,20 +16,20 @@ use writing::answer::Bytes;
 pub mod section;
 
 // The whole file, at the buffer's start. A number takes six bytes at most with the byte behind it, and a form of 32 signals and 128 rows
-// has 2,594 of them behind the header.
+// has 1,952 of them behind the header.
 fn put_circuit(buf: &mut [u8], form: NormalForm) -> usize
-    requires { InNormalForm form × (15598 ≤ length buf.old) }
+    requires { InNormalForm form × (11746 ≤ length buf.old) }
     ensures text { Wrote buf.old 0 (written_circuit (circuit_of form)) buf.new result }
 {
     let signals = form.signals as u32;
     let rows = form.rows as u32;
     let a = line_writer::put_header(
         &mut *buf,
-        signals + 7 * rows + 1,
+        signals + 5 * rows,
         signals + rows,
-        2 * rows + 1,
+        rows,
         3 * rows,
-        4 * rows,
+        3 * rows,
     );
     let b = section::put_inputs(&mut *buf, a, form);
     let c = section::put_latches(&mut *buf, b, form);
@@ -44,7 +44,7 @@ pub fn write_form(formula: Formula, buf: &mut [u8]) -> Bytes
     ensures delivers { Delivers (circuit_text formula) buf.old buf.new result }
 {
     let form = normal_form::normal_form(formula, Sign::Plain);
-    let mut space = [0u8; 15598];
+    let mut space = [0u8; 11746];
     let n = put_circuit(&mut space, form);
     writing::deliver::deliver(&space[..n], buf)
 }

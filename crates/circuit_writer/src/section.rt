@@ -4,11 +4,10 @@ ghost use Rattle.writing.specs.Lent.{Wrote};
 ghost use Rattle.circuit_file.specs.Written.{written_lines};
 ghost use Rattle.normal_form.specs.Form.{InNormalForm};
 ghost use Rattle.row_wiring.specs.Own.{wiring_as};
-ghost use Rattle.circuit_writer.specs.Section.{gate_lines, input_lines, kept_lines, latch_lines, latch_of, next_of};
-ghost use Rattle.circuit_writer.specs.Section.{output_lines, said_lines, said_of};
+ghost use Rattle.circuit_writer.specs.Section.{gate_lines, input_lines, latch_lines, output_lines, said_lines, said_of};
 
 use line_writer::{put_one, put_three, put_two};
-use row_wiring::{Own, Wiring};
+use row_wiring::Wiring;
 use tables::row::NormalForm;
 
 // What a monitor says, as the outputs have it.
@@ -17,13 +16,6 @@ pub enum Said {
     Failed,
     Accept,
     Pending,
-}
-
-// What a row hands on to the next cycle.
-#[derive(Drop)]
-pub enum Kept {
-    Pending,
-    Memory,
 }
 
 // The signals, then the activators by row: their literals go on.
@@ -42,28 +34,10 @@ pub fn put_inputs(buf: &mut [u8], at: usize, form: NormalForm) -> usize
     end
 }
 
-fn latch_of(kept: Kept, own: Own) -> u32
-    ensures answer { result ≡ latch_of kept own }
-{
-    match kept {
-        Kept::Pending => own.pending,
-        Kept::Memory => own.memory,
-    }
-}
-
-fn next_of(kept: Kept, wiring: Wiring) -> u32
-    ensures answer { result ≡ next_of kept (wiring_as wiring) }
-{
-    match kept {
-        Kept::Pending => wiring.pending,
-        Kept::Memory => wiring.memory,
-    }
-}
-
-// The latches of one of the two by row, each of which takes over what its row hands on.
-fn put_kept(buf: &mut [u8], at: usize, form: NormalForm, kept: Kept) -> usize
+// Each row's latch, which takes over the row's pending.
+pub fn put_latches(buf: &mut [u8], at: usize, form: NormalForm) -> usize
     requires { InNormalForm form × (at + 12 * form.rows ≤ length buf.old) }
-    ensures text { Wrote buf.old at (written_lines (kept_lines kept form)) buf.new result }
+    ensures text { Wrote buf.old at (written_lines (latch_lines form)) buf.new result }
     ensures room { result ≤ at + 12 * form.rows }
 {
     let rows = form.rows as usize;
@@ -75,21 +49,9 @@ fn put_kept(buf: &mut [u8], at: usize, form: NormalForm, kept: Kept) -> usize
         let row = place.row;
         let own = row_wiring::own_of(form.signals, form.rows, k);
         let wiring = row_wiring::wiring_of(row, form.signals, form.rows, k);
-        end = put_two(&mut *buf, end, latch_of(kept, own), next_of(kept, wiring));
+        end = put_two(&mut *buf, end, own.latch, wiring.pending);
     }
     end
-}
-
-// Pendings, then memories, then the mark: its latch holds it negated, and it is on in the first cycle alone.
-pub fn put_latches(buf: &mut [u8], at: usize, form: NormalForm) -> usize
-    requires { InNormalForm form × (at + 12 * (2 * form.rows + 1) ≤ length buf.old) }
-    ensures text { Wrote buf.old at (written_lines (latch_lines form)) buf.new result }
-    ensures room { result ≤ at + 12 * (2 * form.rows + 1) }
-{
-    let a = put_kept(&mut *buf, at, form, Kept::Pending);
-    let b = put_kept(&mut *buf, a, form, Kept::Memory);
-    let later = row_wiring::later_of(form.signals, form.rows);
-    put_two(buf, b, later, 1)
 }
 
 fn said_of(said: Said, wiring: Wiring) -> u32
@@ -132,11 +94,11 @@ pub fn put_outputs(buf: &mut [u8], at: usize, form: NormalForm) -> usize
     put_said(buf, b, form, Said::Pending)
 }
 
-// The four gates of each row.
+// The three gates of each row.
 pub fn put_gates(buf: &mut [u8], at: usize, form: NormalForm) -> usize
-    requires { InNormalForm form × (at + 72 * form.rows ≤ length buf.old) }
+    requires { InNormalForm form × (at + 54 * form.rows ≤ length buf.old) }
     ensures text { Wrote buf.old at (written_lines (gate_lines form)) buf.new result }
-    ensures room { result ≤ at + 72 * form.rows }
+    ensures room { result ≤ at + 54 * form.rows }
 {
     let rows = form.rows as usize;
     let mut end = at;
@@ -150,11 +112,9 @@ pub fn put_gates(buf: &mut [u8], at: usize, form: NormalForm) -> usize
         let first = wiring.first;
         let second = wiring.second;
         let third = wiring.third;
-        let fourth = wiring.fourth;
         let a = put_three(&mut *buf, end, own.first, first.rhs0, first.rhs1);
         let b = put_three(&mut *buf, a, own.second, second.rhs0, second.rhs1);
-        let c = put_three(&mut *buf, b, own.third, third.rhs0, third.rhs1);
-        end = put_three(&mut *buf, c, own.fourth, fourth.rhs0, fourth.rhs1);
+        end = put_three(&mut *buf, b, own.third, third.rhs0, third.rhs1);
     }
     end
 }

@@ -103,12 +103,12 @@ text_enough (refused e n) q text is = short_as is (refusal_most _)
 text_enough (accepted f) (refused e n) text is = short_as is (refusal_most _)
 text_enough (accepted f) (accepted t) text is = met_most (meeting_outcome Either f t) f t text is
 
--- ---- the normal form: 2,845 bytes; a step: 513
+-- ---- the normal form: 2,845 bytes; a step: 384
 module _ (f : Formula) (s : Sign) (ok : InRange f) where
   pub normal_enough : length (output f s) ≤ 2845
   normal_enough = omega (arith, output_most f s ok, ok.most_rows)
 
-  pub step_enough : output_size (normal_form f s).rows ≤ 513
+  pub step_enough : output_size (normal_form f s).rows ≤ 384
   step_enough = omega (arith, (form_normal f s ok).most_rows)
 
 -- ---- a sheet: 33,567 bytes

@@ -66,15 +66,15 @@ module _ (rule : List ℕ) (f : Formula) (read : parse_rule rule ≡ accepted f)
   bound_told = omega (arith, fine.most_rows)
 
   -- a step
-  pub step_told : (state activators signals buf : List ℕ) (n : ℕ) → form_answer (normal_form f Plain) state activators signals buf ≡ Count n → n ≤ 513
-  step_told state activators signals buf n answered = by (form_outcome (normal_form f Plain) state activators signals (length buf)) answered
+  pub step_told : (pendings activators signals buf : List ℕ) (n : ℕ) → form_answer (normal_form f Plain) pendings activators signals buf ≡ Count n → n ≤ 384
+  step_told pendings activators signals buf n answered = by (form_outcome (normal_form f Plain) pendings activators signals (length buf)) answered
     where
-      by : (o : Outcome) → on_outcome o BytesRefused (Count (output_size (normal_form f Plain).rows)) ≡ Count n → n ≤ 513
+      by : (o : Outcome) → on_outcome o BytesRefused (Count (output_size (normal_form f Plain).rows)) ≡ Count n → n ≤ 384
       by Accepted q = let same : output_size (normal_form f Plain).rows ≡ n = cc in omega (arith, step_enough f Plain fine)
       by (Refused why) q = clash (cc)
 
   -- a circuit
-  pub circuit_told : (buf : List ℕ) (n : ℕ) → written_answer (circuit_text f) buf ≡ Count n → n ≤ 12999
+  pub circuit_told : (buf : List ℕ) (n : ℕ) → written_answer (circuit_text f) buf ≡ Count n → n ≤ 9789
   circuit_told buf n q = omega (arith, written_length (circuit_text f) buf q, circuit_most f fine)
 
   -- a run that begins

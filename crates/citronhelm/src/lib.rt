@@ -114,8 +114,7 @@ pub extern "C" fn citronhelm_normal_length(rule: &[u8], negated: u8) -> u64
     }
 }
 
-// The verdict on a rule and a take of either kind; of a looped one; of an open one. A looped one is refused with 12 where its written-out
-// form passes 256 cycles, as in the two sheet functions and the check below.
+// The verdict on a rule and a take of either kind; of a looped one; of an open one.
 #[unsafe(no_mangle)]
 pub extern "C" fn citronhelm_judge(rule: &[u8], take: &[u8]) -> u64
     ensures answer { OnPair (parse_rule rule.now) (parse_take take.now) (λ why. result ≡ refusal_code why)
@@ -175,19 +174,19 @@ pub extern "C" fn citronhelm_judge_text(rule: &[u8], take: &[u8], output: &mut [
     answer_code::bytes_code(judge_text::judge(rule, take, output))
 }
 
-// One cycle of a rule's monitors, from their state one cycle earlier: pendings and second bits by row, then the first-cycle mark.
+// One cycle of a rule's monitors.
 #[unsafe(no_mangle)]
 pub extern "C" fn citronhelm_step(
     rule: &[u8],
-    state: &[u8],
+    pendings: &[u8],
     activators: &[u8],
     signals: &[u8],
     output: &mut [u8],
 ) -> u64
     ensures answer { OnFile 1 (parse_rule rule.now) (Turned output.old output.new result)
-        (λ f. (result ≡ bytes_code (form_answer (normal_form f Plain) state.now activators.now signals.now
+        (λ f. (result ≡ bytes_code (form_answer (normal_form f Plain) pendings.now activators.now signals.now
         output.old))
-        × (output.new ≡ form_left (normal_form f Plain) state.now activators.now signals.now
+        × (output.new ≡ form_left (normal_form f Plain) pendings.now activators.now signals.now
         output.old)) }
 {
     let read = rule_file::rule::read_rule(rule);
@@ -196,7 +195,7 @@ pub extern "C" fn citronhelm_step(
         Outcome::Refused(refusal) => answer_code::refusal_code(refusal),
         Outcome::Accepted => answer_code::bytes_code(step::step_met(
             read.formula,
-            state,
+            pendings,
             activators,
             signals,
             output,
@@ -235,7 +234,7 @@ pub extern "C" fn citronhelm_simulate(
     answer_code::bytes_code(simulator::simulate(circuit, inputs, latches, output))
 }
 
-// The sheet of a rule and a take, over the cycles of its written-out form.
+// The sheet of a rule and a take.
 #[unsafe(no_mangle)]
 pub extern "C" fn citronhelm_make_sheet(rule: &[u8], take: &[u8], output: &mut [u8]) -> u64
     ensures answer { OnPair (parse_rule rule.now) (parse_take take.now)

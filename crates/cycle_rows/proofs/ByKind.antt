@@ -2,7 +2,7 @@
 use mathlib.Core.Path.{◌≡◌, refl}
 use mathlib.Core.Bool.{Bool, true, false, ◌&&◌, ◌||◌}
 use Rattle.tables.specs.declared.row.UnaryKind.{UnaryKind}
-use Rattle.tables.specs.declared.row.UnaryKind.TheVariants.{Not, Next, Always, Ever, Before, Wbefore, Once, Sofar}
+use Rattle.tables.specs.declared.row.UnaryKind.TheVariants.{Not, Next, Always, Ever}
 use Rattle.meaning.specs.Rows.{positive}
 use Rattle.meaning.specs.Pattern.{signed_bit, unary_left, unary_pattern}
 use Rattle.cycle_rows.specs.Steps.{left_constant}
@@ -19,17 +19,9 @@ plain_sign Not x other = absurd (other refl)
 plain_sign Next x other = refl
 plain_sign Always x other = refl
 plain_sign Ever x other = refl
-plain_sign Before x other = refl
-plain_sign Wbefore x other = refl
-plain_sign Once x other = refl
-plain_sign Sofar x other = refl
 
 pub left_constant_lem : (k : UnaryKind) → left_constant (unary_pattern k) ≡ unary_left k
 left_constant_lem Not = refl
 left_constant_lem Next = refl
 left_constant_lem Always = refl
 left_constant_lem Ever = refl
-left_constant_lem Before = refl
-left_constant_lem Wbefore = refl
-left_constant_lem Once = refl
-left_constant_lem Sofar = refl

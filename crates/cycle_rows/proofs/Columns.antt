@@ -11,13 +11,13 @@ use lib.Seq.{get_or-set_same, get_or-set_other}
 use Rattle.tables.specs.declared.row.NormalForm.{NormalForm}
 use Rattle.meaning.specs.Satisfaction.{table_of}
 use Rattle.meaning.specs.Rows.{Each, EachSignal}
-use Rattle.meaning.specs.Pattern.{left, pattern_of}
+use Rattle.meaning.specs.Pattern.{left, right, pattern_of}
 use Rattle.meaning.proofs.Rows.{each_map, each_zip, each_signal, each_signal_map}
 use Rattle.normal_form.specs.Form.{InNormalForm}
 use Rattle.normal_form.proofs.FormTables.{form_operands, row_signals}
 use Rattle.cycle_rows.specs.Cycle.{row_from}
 use Rattle.cycle_rows.specs.Cells.{given_in, row_cell, FilledIn}
-use Rattle.cycle_rows.specs.Steps.{case_in, cell_of, right_cell, case_of, StepsOf}
+use Rattle.cycle_rows.specs.Steps.{case_in, cell_of, case_of, StepsOf}
 use Rattle.cycle_rows.proofs.RowFrom.{row_from_local, step_bit_from, cells_below, turn_before, turn_after}
 
 -- the case that step i finds, as the code has it
@@ -50,16 +50,16 @@ module _ {g : NormalForm} (ok : InNormalForm g) {order truth : List ℕ} (s : St
   row_of : (k : ℕ) → 1 ≤ k → k ≤ g.rows → Each (λ a. (1 ≤ a) × (a < k)) (table_of g.places k) × EachSignal (λ n. (1 ≤ n) × (n ≤ 32)) (table_of g.places k)
   row_of k a b = (form_operands g ok k (omega arith), let e : suc (k - 1) ≡ k = omega arith in subst (λ m. EachSignal (λ n. (1 ≤ n) × (n ≤ 32)) (table_of g.places m)) e (row_signals g ok (k - 1) (omega arith)))
 
-  -- the cells that a step names are among the 288
-  pub step_cells : (i : ℕ) → i < g.rows → (get_or order (4 * i) 0 < 288) × (get_or order (4 * i + 1) 0 < 288) × (get_or order (4 * i + 2) 0 < 288)
+  -- the cells that a step names are among the 160
+  pub step_cells : (i : ℕ) → i < g.rows → (get_or order (4 * i) 0 < 160) × (get_or order (4 * i + 1) 0 < 160) × (get_or order (4 * i + 2) 0 < 160)
   step_cells i h =
       let k = s.row_at i in
       let a = s.stepped i h in
       let r = row_of k a.0 a.1 in
-      let b = cells_below k (table_of g.places k) (omega (arith, a.1, ok.most_rows)) (each_map _ _ (λ m x. (x.0, omega (arith, x.1, a.1, ok.most_rows))) (table_of g.places k) r.0) r.1 in
+      let b = cells_below (table_of g.places k) (each_map _ _ (λ m x. (x.0, omega (arith, x.1, a.1, ok.most_rows))) (table_of g.places k) r.0) r.1 in
       (omega (arith, (s.step i h).into, a.1, ok.most_rows), omega (arith, (s.step i h).first, b.0), omega (arith, (s.step i h).second, b.1))
 
-  module _ {before cells : List Bool} {i : ℕ} (sized : length before ≡ 288) (h : i < g.rows) (f : FilledTo g s.turn before i cells) (x : Bool) where
+  module _ {before cells : List Bool} {i : ℕ} (sized : length before ≡ 160) (h : i < g.rows) (f : FilledTo g s.turn before i cells) (x : Bool) where
     abbrev k₀ : ℕ
     k₀ = s.row_at i
 
@@ -96,7 +96,7 @@ module _ {g : NormalForm} (ok : InNormalForm g) {order truth : List ℕ} (s : St
         (each_signal_map _ _ r (λ n y. f.signals (n - 1) (omega (arith, y.0, y.1))) w.1)
         (λ d. each_map _ _ (λ m y. sym (row_kept m (λ z. omega (arith, y.1)))) r w.0)
         (λ d. each_zip _ _ _ (λ m y z. f.ahead m y.0 (omega (arith, y.1, a.1)) (omega (arith, z, a.2))) r w.0 (turn_before s.turn k₀ r (pattern_of r) d (s.in_turn k₀ a.0 a.1)))
-        (f.ahead k₀ a.0 a.1 (omega (arith, a.2))) (λ d. f.behind (159 + k₀) (omega (arith, a.0, ok.most_rows)))
+        (f.ahead k₀ a.0 a.1 (omega (arith, a.2)))
 
     -- a row that is filled reads no row whose turn is to come
     row_then : (k : ℕ) → 1 ≤ k → k ≤ g.rows → s.turn k < i
@@ -107,7 +107,7 @@ module _ {g : NormalForm} (ok : InNormalForm g) {order truth : List ℕ} (s : St
         (each_signal _ (λ n. refl) r)
         (λ d. each_map _ _ (λ m y. sym (row_kept m (other_row m (λ z. omega (arith, y))))) r (turn_after s.turn k r (pattern_of r) d (s.in_turn k a b)))
         (λ d. each_map _ _ (λ m y. refl) r (row_of k a b).0)
-        refl (λ d. refl)
+        refl
 
     filled_more : x ≡ row_from (given_in cells) (row_cell cells) (row_cell cells) (table_of g.places k₀) k₀ → FilledTo g s.turn before (suc i) after
     filled_more e = record {
@@ -128,11 +128,11 @@ module _ {g : NormalForm} (ok : InNormalForm g) {order truth : List ℕ} (s : St
   step_told cells i h =
       let p = s.step i h in
       let r = table_of g.places (s.row_at i) in
-      let e = found_case_lem (get_or cells (cell_of (left r)) false) (get_or cells (right_cell (s.row_at i) r) false) (row_cell cells (s.row_at i)) in
+      let e = found_case_lem (get_or cells (cell_of (left r)) false) (get_or cells (cell_of (right r)) false) (row_cell cells (s.row_at i)) in
       rw (p.into, p.first, p.second, e)
-      (p.told (get_or cells (cell_of (left r)) false) (get_or cells (right_cell (s.row_at i) r) false) (row_cell cells (s.row_at i)) ∙ step_bit_from cells r (s.row_at i))
+      (p.told (get_or cells (cell_of (left r)) false) (get_or cells (cell_of (right r)) false) (row_cell cells (s.row_at i)) ∙ step_bit_from cells r (s.row_at i))
 
-  pub filled_step : {before cells : List Bool} {i : ℕ} → length before ≡ 288 → i < g.rows → FilledTo g s.turn before i cells
+  pub filled_step : {before cells : List Bool} {i : ℕ} → length before ≡ 160 → i < g.rows → FilledTo g s.turn before i cells
       → FilledTo g s.turn before (suc i) (set cells (get_or order (4 * i) 0) (case_in (get_or truth i 0) (found_case order cells i)))
   filled_step {before} {cells} {i} sized h f =
       let x = case_in (get_or truth i 0) (found_case order cells i) in

@@ -7,8 +7,8 @@ use native.Mathlib.Omega.{arith}
 use lib.ListN.{length, get_or, set, length-set}
 use lib.Seq.{get_or-set_same, get_or-set_other}
 use Rattle.tables.specs.declared.row.Row.{Row}
-use Rattle.meaning.specs.Pattern.{left}
-use Rattle.cycle_rows.specs.Steps.{StepFor, step_bit, case_in, case_of, cell_of, right_cell}
+use Rattle.meaning.specs.Pattern.{left, right}
+use Rattle.cycle_rows.specs.Steps.{StepFor, step_bit, case_in, case_of, cell_of}
 
 -- a step, where two pairs of lists agree on its bytes and its table
 module _ {order after truth told : List ℕ} {i k : ℕ} {r : Row} where
@@ -46,7 +46,7 @@ module _ (order : List ℕ) (i x y z : ℕ) where
     third_byte = get_or-set_same (set (set order (4 * i) x) (4 * i + 1) y) (4 * i + 2) z 0 (omega (arith, length-set (set order (4 * i) x) (4 * i + 1) y, length-set order (4 * i) x))
 
 module _ (order truth : List ℕ) (i k y z table : ℕ) where
-  pub step_put : {r : Row} → length order ≡ 512 → length truth ≡ 128 → i < 128 → y ≡ cell_of (left r) → z ≡ right_cell k r
+  pub step_put : {r : Row} → length order ≡ 512 → length truth ≡ 128 → i < 128 → y ≡ cell_of (left r) → z ≡ cell_of (right r)
       → ((a b x : Bool) → case_in table (case_of a b x) ≡ step_bit r a b x) → StepFor (bytes order i (31 + k) y z) (set truth i table) i k r
   step_put {r} l m h p q t = record {
     into = first_byte order i (31 + k) y z (omega arith);

@@ -10,7 +10,7 @@ use Rattle.tables.specs.Choice.{pick}
 use Rattle.tables.specs.declared.row.Row.{Row}
 use Rattle.meaning.specs.Satisfaction.{Table}
 use Rattle.meaning.specs.Rows.{Each}
-use Rattle.meaning.specs.Pattern.{Pattern, Pattern.now, Pattern.next, Pattern.connective, Pattern.previous, Pattern.temporal, Pattern.past, pattern_of}
+use Rattle.meaning.specs.Pattern.{Pattern, Pattern.now, Pattern.next, Pattern.connective, Pattern.temporal, pattern_of}
 use Rattle.meaning.proofs.Rows.{each_map}
 use Rattle.meaning.proofs.Readings.{on_or_off}
 use Rattle.cycle_rows.specs.Steps.{is_next, InTurn}
@@ -133,9 +133,7 @@ in_turn_by : (turn : ℕ → ℕ) (k : ℕ) (r : Row) (p : Pattern) → (is_next
 in_turn_by turn k r now f g = g refl
 in_turn_by turn k r next f g = f refl
 in_turn_by turn k r (connective b) f g = g refl
-in_turn_by turn k r (previous w) f g = g refl
 in_turn_by turn k r (temporal b w) f g = g refl
-in_turn_by turn k r (past b w) f g = g refl
 
 -- operands are earlier rows, so a `next` row comes before its operand and any other after its own
 pub turns_right : (t : Table) (rows k : ℕ) → 1 ≤ k → k ≤ rows → Each (λ a. (1 ≤ a) × (a < k)) (t k) → InTurn (turn_of t rows) k (t k) (pattern_of (t k))

@@ -1,5 +1,4 @@
--- How a cycle lies in memory: 32 cells for its signals, 128 for its rows, and 128 more in which those that look back are given.
--- Assumes nothing.
+-- How a cycle lies in memory: 32 cells for its signals, 128 for its rows. Assumes nothing.
 use Rattle.std.specs.Prelude.{ℕ, ◌+◌, ◌-◌, ◌≤◌, ◌<◌, ◌≡◌, Bool, false, List, get_or, length}
 use Rattle.tables.specs.declared.row.NormalForm.{NormalForm}
 use Rattle.cycle_rows.specs.Cycle.{CycleFrom, Given}
@@ -11,14 +10,11 @@ signal_cell cells s = get_or cells (s - 1) false
 abbrev pub row_cell : List Bool → ℕ → Bool
 row_cell cells k = get_or cells (31 + k) false
 
-abbrev pub past_cell : List Bool → ℕ → Bool
-past_cell cells k = get_or cells (159 + k) false
-
 -- what a cycle is given, in its cells
 abbrev pub given_in : List Bool → Given
-given_in cells = record { signals = signal_cell cells; past = past_cell cells }
+given_in cells = record { signals = signal_cell cells }
 
--- a cycle filled in place: before it the cells hold what it is given and the rows one cycle on, behind it what it was given and its rows
+-- a cycle filled in place: before it the cells hold its signals and the rows one cycle on, behind it its signals and its rows
 pub record FilledIn (g : NormalForm) (before after : List Bool) : Type 0 where
   pub size : length after ≡ length before
   pub rows : CycleFrom g (given_in before) (row_cell before) (row_cell after)

@@ -1,5 +1,4 @@
 pub mod Cycle
-pub mod Back
 pub mod Cells
 pub mod Meant
 pub mod Steps

@@ -5,10 +5,9 @@ use Rattle.tables.specs.declared.row.Row.{Row}
 use Rattle.tables.specs.declared.row.NormalForm.{NormalForm}
 use Rattle.meaning.specs.Satisfaction.{table_of}
 use Rattle.meaning.specs.Rows.{Each}
-use Rattle.meaning.specs.Pattern.{Pattern, Pattern.now, Pattern.next, Pattern.connective, Pattern.previous, Pattern.temporal, Pattern.past}
+use Rattle.meaning.specs.Pattern.{Pattern, Pattern.now, Pattern.next, Pattern.connective, Pattern.temporal}
 use Rattle.meaning.specs.Pattern.{Operand, Operand.constant, Operand.signal, Operand.row, left, right, pattern_of, signed_bit}
 use Rattle.cycle_rows.specs.Cycle.{pattern_from}
-use Rattle.cycle_rows.specs.Back.{looks_back}
 
 -- the cell of an operand; a constant needs none, and any serves
 abbrev pub cell_of : Operand → ℕ
@@ -16,29 +15,23 @@ cell_of (constant b) = 0
 cell_of (signal b s) = s - 1
 cell_of (row b a) = 31 + a
 
--- the cell of row k's right operand; but a row that looks back reads the one in which it is given
-abbrev pub right_cell : ℕ → Row → ℕ
-right_cell k r = pick (looks_back (pattern_of r)) (159 + k) (cell_of (right r))
-
 -- an operand, from what its cell holds
 abbrev pub from_cell : Operand → Bool → Bool
 from_cell (constant b) x = b
 from_cell (signal b s) x = signed_bit b x
 from_cell (row b a) x = signed_bit b x
 
--- the left operand of a row with one operand: until and since have true, release and trigger false; elsewhere it does not count
+-- the left operand of a row with one operand: until has true, release false; elsewhere it does not count
 abbrev pub left_constant : Pattern → Bool
 left_constant now = true
 left_constant next = true
 left_constant (connective f) = f
-left_constant (previous w) = true
 left_constant (temporal f w) = f
-left_constant (past f w) = f
 
--- a row, from the two cells that it reads and its own. `next` finds its operand as it stands one cycle on, and the others as it is in the
+-- a row, from the cells of its operands and its own. `next` finds its operand as it stands one cycle on, and the others as it is in the
 -- cycle: that is a matter of the steps' order.
 abbrev pub step_bit : Row → Bool → Bool → Bool → Bool
-step_bit r a b x = pattern_from (pattern_of r) (from_cell (left r) a) (from_cell (right r) b) (from_cell (right r) b) x b
+step_bit r a b x = pattern_from (pattern_of r) (from_cell (left r) a) (from_cell (right r) b) (from_cell (right r) b) x
 
 -- where a step's table has the answer for what it finds
 abbrev pub case_of : Bool → Bool → Bool → ℕ
@@ -48,29 +41,25 @@ case_of a b x = pick a 1 0 + 2 * pick b 1 0 + 4 * pick x 1 0
 abbrev pub case_in : ℕ → ℕ → Bool
 case_in table m = eqb (table / 2 ^ m % 2) 1
 
--- step i fills row k, whose row is r: four numbers (its cell, the two that it reads, one unused), and a table of eight cases in one byte
+-- step i fills row k, whose row is r: four bytes (its cell, those of its operands, one unused), and a table of eight cases in one byte
 pub record StepFor (order truth : List ℕ) (i k : ℕ) (r : Row) : Type 0 where
   pub into : get_or order (4 * i) 0 ≡ 31 + k
   pub first : get_or order (4 * i + 1) 0 ≡ cell_of (left r)
-  pub second : get_or order (4 * i + 2) 0 ≡ right_cell k r
+  pub second : get_or order (4 * i + 2) 0 ≡ cell_of (right r)
   pub told : (a b x : Bool) → case_in (get_or truth i 0) (case_of a b x) ≡ step_bit r a b x
 
 abbrev pub is_next : Pattern → Bool
 is_next now = false
 is_next next = true
 is_next (connective f) = false
-is_next (previous w) = false
 is_next (temporal f w) = false
-is_next (past f w) = false
 
 -- a row has its turn before its operand where it is `next`, and after its operands otherwise
 abbrev pub InTurn : (ℕ → ℕ) → ℕ → Row → Pattern → Type 0
 InTurn turn k r now = Each (λ a. turn a < turn k) r
 InTurn turn k r next = Each (λ a. turn k < turn a) r
 InTurn turn k r (connective f) = Each (λ a. turn a < turn k) r
-InTurn turn k r (previous w) = Each (λ a. turn a < turn k) r
 InTurn turn k r (temporal f w) = Each (λ a. turn a < turn k) r
-InTurn turn k r (past f w) = Each (λ a. turn a < turn k) r
 
 -- the steps of a normal form: `row_at` i is the row of step i, and `turn` k the step of row k
 pub record StepsOf (g : NormalForm) (order truth : List ℕ) : Type 0 where

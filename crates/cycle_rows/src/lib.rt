@@ -1,19 +1,18 @@
-// All rows of a normal form at one cycle of a lasso, from the cycle's signals and the rows one cycle on; those that look back are given,
-// filled forward before. The rows are prepared once as steps; then a row costs two cells, its own, and one look into a table.
+// All rows of a normal form at one cycle of a lasso, from the cycle's signals and the rows one cycle on. The rows are prepared once as
+// steps; then a row costs the cells of its operands, its own, and one look into a table.
 ghost use Rattle.std.specs.Prelude.{◌≡◌};
 ghost use Rattle.tables.specs.declared.row.NormalForm.{NormalForm};
 ghost use Rattle.normal_form.specs.Form.{InNormalForm};
 ghost use Rattle.cycle_rows.specs.Cells.{FilledIn};
 ghost use Rattle.cycle_rows.specs.Steps.{StepsOf};
 
-pub mod back;
 pub mod pattern;
 pub mod prepare;
-pub mod step_bit;
+mod step_bit;
 
-// The rows of the cycle, in place: the cells hold its signals, its rows that look back and the rows one cycle on, and then its rows.
-// Beside the steps nothing else is given, and no branch depends on a row.
-pub fn fill_cycle(rows: usize, order: &[u16; 512], truth: &[u8; 128], cells: &mut [bool; 288])
+// The rows of the cycle, in place: the cells hold its signals and the rows one cycle on, and then its rows. Beside the steps nothing
+// else is given, and no branch depends on a row.
+pub fn fill_cycle(rows: usize, order: &[u8; 512], truth: &[u8; 128], cells: &mut [bool; 160])
     requires { (g : NormalForm) × InNormalForm g × (g.rows ≡ rows) × StepsOf g order.now truth.now }
     ensures filled { (g : NormalForm) → InNormalForm g → g.rows ≡ rows → StepsOf g order.now truth.now
         → FilledIn g cells.old cells.new }

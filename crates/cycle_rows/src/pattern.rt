@@ -5,17 +5,14 @@ ghost use Rattle.cycle_rows.specs.Meant.{meant};
 
 use tables::row::{BinaryKind, Row, UnaryKind};
 
-// A row is its right operand, or that one cycle later, or a connective of its two operands, or until or its like of them; or it looks
-// back: the right operand one cycle before, or since or its like. The first bool tells `or`, until, weak and since from `and`, the
-// releases and trigger; the last what holds where the goal is never met, or, looking back, before the first cycle.
+// A row is its right operand, or that one cycle later, or a connective of its two operands, or until or its like of them. The first bool
+// tells `or`, until and weak from `and` and the releases; the second what holds where the goal is never met.
 #[derive(Drop)]
 pub enum Pattern {
     Now,
     Next,
     Connective(bool),
-    Previous(bool),
     Temporal(bool, bool),
-    Past(bool, bool),
 }
 
 fn unary(kind: UnaryKind) -> Pattern
@@ -26,10 +23,6 @@ fn unary(kind: UnaryKind) -> Pattern
         UnaryKind::Next => Pattern::Next,
         UnaryKind::Always => Pattern::Temporal(false, true),
         UnaryKind::Ever => Pattern::Temporal(true, false),
-        UnaryKind::Before => Pattern::Previous(false),
-        UnaryKind::Wbefore => Pattern::Previous(true),
-        UnaryKind::Once => Pattern::Past(true, false),
-        UnaryKind::Sofar => Pattern::Past(false, true),
     }
 }
 
@@ -43,8 +36,6 @@ fn binary(kind: BinaryKind) -> Pattern
         BinaryKind::Until => Pattern::Temporal(true, false),
         BinaryKind::Release => Pattern::Temporal(false, true),
         BinaryKind::Srelease => Pattern::Temporal(false, false),
-        BinaryKind::Since => Pattern::Past(true, false),
-        BinaryKind::Trigger => Pattern::Past(false, true),
     }
 }
 

@@ -3,21 +3,20 @@ ghost use Rattle.std.specs.Prelude.{Bool, ◌≡◌, ℕ, ◌≤◌, ◌<◌, le
 ghost use Rattle.meaning.specs.Rows.{Each, EachSignal};
 ghost use Rattle.meaning.specs.Pattern.{left, pattern_of, right};
 ghost use Rattle.normal_form.specs.Form.{InNormalForm};
-ghost use Rattle.cycle_rows.specs.Steps.{case_in, case_of, cell_of, is_next, right_cell, step_bit, StepFor, StepsOf};
+ghost use Rattle.cycle_rows.specs.Steps.{case_in, case_of, cell_of, is_next, step_bit, StepFor, StepsOf};
 ghost use Rattle.tables.specs.declared.row.Row.{Row as AnyRow};
 
-use crate::back::looks_back;
 use crate::pattern::{Pattern, pattern_of};
 use crate::step_bit::step_bit;
 use tables::row::{NormalForm, Row};
 
 #[derive(Drop)]
 pub struct Steps {
-    pub order: [u16; 512],
+    pub order: [u8; 512],
     pub truth: [u8; 128],
 }
 
-fn first_cell(row: Row) -> u16
+fn first_cell(row: Row) -> u8
     requires { Each (λ a. (1 ≤ a) × (a ≤ 128)) row }
     ensures cell { result ≡ cell_of (left row) }
 {
@@ -25,31 +24,19 @@ fn first_cell(row: Row) -> u16
         Row::Constant(_) => 0,
         Row::Signal(_, _) => 0,
         Row::Unary(_, _) => 0,
-        Row::Binary(_, a, _) => 31 + a as u16,
+        Row::Binary(_, a, _) => 31 + a,
     }
 }
 
-fn operand_cell(row: Row) -> u16
+fn second_cell(row: Row) -> u8
     requires { Each (λ a. (1 ≤ a) × (a ≤ 128)) row × EachSignal (λ s. (1 ≤ s) × (s ≤ 32)) row }
     ensures cell { result ≡ cell_of (right row) }
 {
     match row {
         Row::Constant(_) => 0,
-        Row::Signal(_, s) => s as u16 - 1,
-        Row::Unary(_, a) => 31 + a as u16,
-        Row::Binary(_, _, b) => 31 + b as u16,
-    }
-}
-
-// A row that looks back has no operand in a step: it is given.
-fn second_cell(number: u8, row: Row) -> u16
-    requires { (number ≤ 128) × Each (λ a. (1 ≤ a) × (a ≤ 128)) row × EachSignal (λ s. (1 ≤ s) × (s ≤ 32)) row }
-    ensures cell { result ≡ right_cell number row }
-{
-    if looks_back(row) {
-        159 + number as u16
-    } else {
-        operand_cell(row)
+        Row::Signal(_, s) => s - 1,
+        Row::Unary(_, a) => 31 + a,
+        Row::Binary(_, _, b) => 31 + b,
     }
 }
 
@@ -68,7 +55,7 @@ fn table(row: Row) -> u8
 }
 
 // Step i: row `number`, which is `row`. The other steps stay.
-fn put_step(order: &mut [u16; 512], truth: &mut [u8; 128], i: usize, number: u8, row: Row)
+fn put_step(order: &mut [u8; 512], truth: &mut [u8; 128], i: usize, number: u8, row: Row)
     requires { (length order.old ≡ 512) × (length truth.old ≡ 128) × (i < 128) × (1 ≤ number) × (number ≤ 128)
         × Each (λ a. (1 ≤ a) × (a ≤ 128)) row × EachSignal (λ s. (1 ≤ s) × (s ≤ 32)) row }
     ensures sizes { (length order.new ≡ 512) × (length truth.new ≡ 128) }
@@ -76,9 +63,9 @@ fn put_step(order: &mut [u16; 512], truth: &mut [u8; 128], i: usize, number: u8,
     ensures others { (j k : ℕ) (other : AnyRow) → (j ≡ i → ⊥) → StepFor order.old truth.old j k other
         → StepFor order.new truth.new j k other }
 {
-    order[4 * i] = 31 + number as u16;
+    order[4 * i] = 31 + number;
     order[4 * i + 1] = first_cell(row);
-    order[4 * i + 2] = second_cell(number, row);
+    order[4 * i + 2] = second_cell(row);
     truth[i] = table(row);
 }
 
@@ -90,14 +77,11 @@ fn is_next(row: Row) -> bool
         Pattern::Now => false,
         Pattern::Next => true,
         Pattern::Connective(_) => false,
-        Pattern::Previous(_) => false,
         Pattern::Temporal(_, _) => false,
-        Pattern::Past(_, _) => false,
     }
 }
 
-// In place, `next` has to read its operand before that is filled, so these rows come first, from the last; then all others in order,
-// those that look back among them, which are put from where they are given.
+// In place, `next` has to read its operand before that is filled, so these rows come first, from the last; then all others in order.
 pub fn prepare(form: NormalForm) -> Steps
     requires { InNormalForm form }
     ensures steps { StepsOf form result.order result.truth }

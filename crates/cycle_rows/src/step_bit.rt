@@ -1,8 +1,7 @@
 // A row in a cycle, from what its step finds: its operands under their signs, then its pattern.
 ghost use Rattle.std.specs.Prelude.{◌≡◌};
 ghost use Rattle.meaning.specs.Rows.{positive};
-ghost use Rattle.meaning.specs.Approximant.{expand as expansion};
-ghost use Rattle.meaning.specs.Pattern.{constant_bit, goal_bit, keep_bit, left, pattern_of, right, signal_sign, signed_bit};
+ghost use Rattle.meaning.specs.Pattern.{constant_bit, left, pattern_of, right, signal_sign, signed_bit};
 ghost use Rattle.cycle_rows.specs.Cycle.{pattern_from};
 ghost use Rattle.cycle_rows.specs.Meant.{meant};
 ghost use Rattle.cycle_rows.specs.Steps.{from_cell, left_constant, step_bit};
@@ -36,7 +35,7 @@ fn signed(kind: UnaryKind, on: bool) -> bool
 }
 
 // The right operand of a row, from what its cell holds.
-pub fn right_bit(row: Row, b: bool) -> bool
+fn right_bit(row: Row, b: bool) -> bool
     ensures answer { result ≡ from_cell (right row) b }
 {
     match row {
@@ -47,7 +46,7 @@ pub fn right_bit(row: Row, b: bool) -> bool
     }
 }
 
-// Until and since with one operand have true on their left, release and trigger false. Elsewhere it does not count.
+// Until with one operand has true on its left, release false. Elsewhere it does not count.
 fn left_constant(pattern: Pattern) -> bool
     ensures answer { result ≡ left_constant (meant pattern) }
 {
@@ -55,14 +54,12 @@ fn left_constant(pattern: Pattern) -> bool
         Pattern::Now => true,
         Pattern::Next => true,
         Pattern::Connective(either) => either,
-        Pattern::Previous(_) => true,
         Pattern::Temporal(until, _) => until,
-        Pattern::Past(since, _) => since,
     }
 }
 
 // The left operand.
-pub fn left_bit(row: Row, pattern: Pattern, a: bool) -> bool
+fn left_bit(row: Row, pattern: Pattern, a: bool) -> bool
     requires { meant pattern ≡ pattern_of row }
     ensures answer { result ≡ from_cell (left row) a }
 {
@@ -74,37 +71,24 @@ pub fn left_bit(row: Row, pattern: Pattern, a: bool) -> bool
     }
 }
 
-// Until or its like: the goal, or what has to hold up to it and what holds one cycle on. Release or its like likewise.
-pub fn expand(until: bool, a: bool, b: bool, ahead: bool) -> bool
-    ensures answer { result ≡ expansion (keep_bit until a b) (goal_bit until a b) ahead }
-{
-    if until {
-        b | (a & ahead)
-    } else {
-        b & (a | ahead)
-    }
-}
-
-// A row by its pattern, from its operands, from itself one cycle on and as it is given. `next` finds its operand as it stands one cycle on.
-fn pattern_bit(pattern: Pattern, a: bool, b: bool, own: bool, given: bool) -> bool
-    ensures answer { result ≡ pattern_from (meant pattern) a b b own given }
+// A row by its pattern, from its operands and from itself one cycle on. `next` finds its operand as it stands one cycle on.
+fn pattern_bit(pattern: Pattern, a: bool, b: bool, own: bool) -> bool
+    ensures answer { result ≡ pattern_from (meant pattern) a b b own }
 {
     match pattern {
         Pattern::Now => b,
         Pattern::Next => b,
         Pattern::Connective(either) => if either { a | b } else { a & b },
-        Pattern::Previous(_) => given,
-        Pattern::Temporal(until, _) => expand(until, a, b, own),
-        Pattern::Past(_, _) => given,
+        Pattern::Temporal(until, _) => if until { b | (a & own) } else { b & (a | own) },
     }
 }
 
-// A row in a cycle, from the two cells that it reads and from itself one cycle on.
+// A row in a cycle, from the cells of its operands and from itself one cycle on.
 pub fn step_bit(row: Row, a: bool, b: bool, own: bool) -> bool
     ensures answer { result ≡ step_bit row a b own }
 {
     let pattern = pattern_of(row);
     let left = left_bit(row, pattern, a);
     let right = right_bit(row, b);
-    pattern_bit(pattern, left, right, own, b)
+    pattern_bit(pattern, left, right, own)
 }

@@ -1,7 +1,7 @@
--- The verdict, computed: on a looped take by the bits of the rule as written, with rounds of the loop written out as they are nested in it,
--- on an open one by those of both normal forms (verdict-computed); and that the contract of a service leaves one answer (one_answer). Assumes nothing.
-use Prim.Native.Nat.{ℕ, suc, ◌+◌, ◌*◌, ◌-◌, ◌<◌}
-use mathlib.Core.Path.{◌≡◌, refl, sym, ap, subst, fun_ext, ◌∙◌}
+-- The verdict, computed: on a looped take by the bits of the rule as written, on an open one by those of both normal forms
+-- (verdict-computed); and that the contract of a service leaves one answer (one_answer). Assumes nothing.
+use Prim.Native.Nat.{ℕ, suc, ◌+◌, ◌-◌, ◌<◌}
+use mathlib.Core.Path.{◌≡◌, refl, sym, ap, ◌∙◌}
 use mathlib.Core.Logic.{◌↔◌}
 use mathlib.Core.Bool.{Bool, true, false}
 use native.Mathlib.Omega.{arith}
@@ -21,14 +21,12 @@ use Rattle.take_file.specs.Valid.{Below as LoopBelow, InRange as TraceInRange, V
 use Rattle.take_file.proofs.Takes.{take_written_lem}
 use Rattle.meaning.specs.Reading.{classical}
 use Rattle.meaning.specs.Trace.{signal_at, unrolled, position}
-use Rattle.meaning.specs.Satisfaction.{Table, table_of, RowTrue, Satisfies}
-use Rattle.meaning.specs.Nesting.{most_nested}
+use Rattle.meaning.specs.Satisfaction.{table_of, Satisfies}
 use Rattle.meaning.proofs.Truth.{every_cycle}
 use Rattle.meaning.proofs.Readings.{On, on_and_off}
 use Rattle.meaning.proofs.Evaluation.{bits_of, bits_computed}
-use Rattle.meaning.proofs.Nesting.{nested_most}
-use Rattle.meaning.proofs.Periodic.{written_position}
-use Rattle.meaning.proofs.Lasso.{lasso_bits_computed, lasso_truth, covers_later}
+use Rattle.meaning.proofs.Nesting.{nested_none}
+use Rattle.meaning.proofs.Lasso.{lasso_bits_computed, lasso_truth, covers_unnested}
 use Rattle.meaning.proofs.StrongTruth.{cycles_below}
 use Rattle.meaning.proofs.Prefix.{prefix, to_end, prefix_truth}
 use Rattle.normal_form.specs.declared.sign.Sign.{Sign}
@@ -42,7 +40,7 @@ use Rattle.judging.specs.declared.verdict.Verdict.TheVariants.{Holds, Breaks, Ke
 use Rattle.judging.specs.declared.verdict.Answer.{Answer}
 use Rattle.judging.specs.declared.verdict.Answer.TheVariants.{Judged, Refused as AnswerRefused}
 use Rattle.judging.specs.Verdict.{StronglyTrue, VerdictOf}
-use Rattle.meeting.specs.Meeting.{pair_outcome, eight_outcome, twelve_outcome}
+use Rattle.meeting.specs.Meeting.{pair_outcome, eight_outcome}
 use Rattle.meeting.specs.declared.Wanted.{Wanted}
 use Rattle.judging.specs.Answer.{Answers}
 use Rattle.tables.proofs.Outcomes.{agree}
@@ -50,17 +48,9 @@ use Rattle.judging.proofs.Verdicts.{kept_not_broken, holds_verdict, breaks_verdi
 
 -- ---- the bits
 
--- how many rounds are written out for the rule as written, and the cycles that these are
-abbrev rule_rounds : Formula → ℕ
-rule_rounds f = most_nested (table_of f.places) (suc f.rows)
-
-abbrev rounds_out : Formula → Trace → ℕ → ℕ
-rounds_out f t l = rule_rounds f * (t.cycles - l)
-
--- the root of a rule as written, at the first cycle of the unrolled lasso: to the end of what is written out, and once more round
+-- the root of a rule as written, at the first cycle of the unrolled lasso: to the end of the recording, and once more round
 abbrev pub looped_bit : Formula → Trace → ℕ → Bool
-looped_bit f t l =
-    bits_of every_cycle (unrolled t l) (λ i. (t.cycles + rounds_out f t l - i) + (t.cycles + rounds_out f t l - (l + rounds_out f t l))) (table_of f.places) f.rows 0
+looped_bit f t l = bits_of every_cycle (unrolled t l) (λ i. (t.cycles - i) + (t.cycles - l)) (table_of f.places) f.rows 0
 
 -- the root of a normal form, at the first cycle of the prefix
 abbrev pub open_bit : NormalForm → Trace → Bool
@@ -70,17 +60,10 @@ module _ (f : Formula) (t : Trace) (fine : FormulaInRange f) where
   looped_is : (l : ℕ) → l < t.cycles → Satisfies classical (unrolled t l) f ↔ On (looped_bit f t l)
   unfolding position
   looped_is l below =
-      let n : ℕ = t.cycles + rounds_out f t l in
-      let m : ℕ = l + rounds_out f t l in
-      let later : m < n = omega arith in
-      let table : Table = table_of f.places in
-      let written : ℕ → ℕ → Bool = λ c. signal_at t (position t.cycles l c) in
       let ordered = table_ordered f.signals f.rows f.places fine.rows_in_range in
-      let covers = covers_later t.cycles l below (signal_at t) table (suc f.rows) (rule_rounds f) (nested_most table (suc f.rows)) in
-      let computed = lasso_bits_computed n m later written table (suc f.rows) ordered covers in
-      let same : (λ i. written (position n m i)) ≡ unrolled t l = fun_ext (λ i. ap (signal_at t) (written_position t.cycles l below (rule_rounds f) i)) in
-      subst (λ w. RowTrue classical w table f.rows 0 ↔ On (bits_of every_cycle w (λ i. (n - i) + (n - m)) table f.rows 0)) same
-      (lasso_truth n m later written table (suc f.rows) ordered covers _ computed classical f.rows (omega arith) 0)
+      let covers = covers_unnested t.cycles l below (signal_at t) (table_of f.places) (suc f.rows) (λ k h. nested_none (table_of f.places) k) in
+      let computed = lasso_bits_computed t.cycles l below (signal_at t) (table_of f.places) (suc f.rows) ordered covers in
+      lasso_truth t.cycles l below (signal_at t) (table_of f.places) (suc f.rows) ordered covers _ computed classical f.rows (omega arith) 0
 
   open_is : 0 < t.cycles → (s : Sign) → StronglyTrue t (normal_form f s) ↔ On (open_bit (normal_form f s) t)
   open_is some s =
@@ -122,11 +105,10 @@ module _ (f : Formula) (t : Trace) (fine : FormulaInRange f) (range : TraceInRan
 -- ---- the answer, to tables that were read
 
 module _ (f : Formula) (t : Trace) (rule : FormulaValid f) (take : TraceValid t) (same : f.signals ≡ t.signals) where
-  -- a service for this kind of take gives the computed verdict, where 12 is not due
-  pub answered : (wanted : Wanted) → eight_outcome wanted t.ending ≡ Accepted → twelve_outcome f t ≡ Accepted
-      → Answers (pair_outcome wanted f t) f t (Judged (computed_verdict f t))
-  answered wanted e d =
-      rw (rule_written_lem f rule, take_written_lem t take, sym (agree f.signals t.signals same), e, d)
+  -- a service for this kind of take gives the computed verdict
+  pub answered : (wanted : Wanted) → eight_outcome wanted t.ending ≡ Accepted → Answers (pair_outcome wanted f t) f t (Judged (computed_verdict f t))
+  answered wanted e =
+      rw (rule_written_lem f rule, take_written_lem t take, sym (agree f.signals t.signals same), e)
       (computed_verdict f t, refl, verdict_computed f t rule.in_range_lem take.range)
 
 -- THE CONTRACT LEAVES ONE ANSWER

@@ -1,6 +1,11 @@
 -- One word of an expansion of until, from what holds behind the word. Assumes nothing.
-use Rattle.std.proofs.Common.{◌≡◌, ℕ, suc, ◌+◌, ◌-◌, ◌^◌, ◌<◌, ◌≤◌, Bool, true, false, ◌&&◌, ◌||◌, eqb, sym, refl, ap, ◌∙◌, arith, lt-ltb}
+use Prim.Native.Nat.{ℕ, suc, ◌+◌, ◌-◌, ◌^◌, ◌≤◌, ◌<◌}
+use mathlib.Core.Path.{◌≡◌, refl, sym, ap, ◌∙◌}
+use mathlib.Core.Bool.{Bool, true, false, ◌&&◌, ◌||◌}
+use native.Mathlib.Omega.{arith}
+use lib.Dec.{eqb}
 use lib.Bits.{bit_and, bit_or}
+use borrow.Author.Tests.{lt-ltb}
 use Rattle.tables.specs.Choice.{pick}
 use Rattle.tables.specs.Bit.{word_from}
 use Rattle.tables.proofs.Bits.{word_ext}

@@ -1,14 +1,21 @@
 -- Lanes word by word. Assumes nothing.
-use Rattle.std.proofs.Common.{◌≡◌, ℕ, zero, suc, ◌+◌, ◌-◌, ◌/◌, ◌%◌, ◌^◌, ◌<◌, ◌≤◌, Bool, true, false, eqb, ltb, [], ◌∷◌, get_or, sym, refl, ap, ◌∙◌, ap₂, arith, le-ltb, lt-ltb, eq-eqb, ne_eqb}
+use Prim.Native.Nat.{ℕ, zero, suc, ◌+◌, ◌-◌, ◌≤◌, ◌<◌, ◌%◌, ◌^◌}
+use mathlib.Core.Path.{◌≡◌, refl, sym, ap, ap₂, ◌∙◌}
+use mathlib.Core.Bool.{Bool, true, false}
+use mathlib.Core.List.{[], ◌∷◌}
 use native.Mathlib.Decide.{ℕ_discrete, dec_lt}
+use native.Mathlib.Omega.{arith}
+use lib.Dec.{ltb, eqb}
+use lib.ListN.{get_or}
+use borrow.Author.Tests.{eq-eqb, ne_eqb, lt-ltb, le-ltb}
 use Rattle.tables.specs.Choice.{pick}
 use Rattle.tables.specs.Place.{tabulate_from}
 use Rattle.tables.specs.Bit.{word_from, lane_of}
 use Rattle.tables.specs.declared.trace.Lane.{Lane}
 use Rattle.tables.proofs.Bits.{word_ext, lane_ext, OneMore}
-use Rattle.meaning.specs.Approximant.{expand, approximant, accumulated, earlier}
+use Rattle.meaning.specs.Approximant.{expand, approximant}
 use Rattle.meaning.proofs.Streams.{approximant_split}
-use Rattle.lanes.proofs.Words.{word_odd, word_end, word_every}
+use Rattle.lanes.proofs.Words.{word_odd, word_every}
 
 -- the four words of a lane
 module _ (f : ℕ → Bool) where
@@ -99,50 +106,6 @@ module _ (f : ℕ → Bool) (end : f 256 ≡ false) (lane : Lane) (p : lane ≡ 
       (n₁ 64 f (word_at_1 lane f p) (ap (λ x. x % 2) (word_at_2 lane f p) ∙ word_odd 63 128 f))
       (n₂ 128 f (word_at_2 lane f p) (ap (λ x. x % 2) (word_at_3 lane f p) ∙ word_odd 63 192 f))
       (n₃ 192 f (word_at_3 lane f p) (rw end))
-
--- ---- since over the whole lane, from the first cycle on
-
-module _ (k g : ℕ → Bool) (w : Bool) where
-  -- what carry_forward promises
-  abbrev Forward : ℕ → ℕ → ℕ → ℕ → Type 0
-  Forward keep goal before r =
-      (b : ℕ) (k g : ℕ → Bool) (w : Bool) → keep ≡ word_from 64 b k → goal ≡ word_from 64 b g → before / 2 ^ 63 ≡ pick (earlier w (accumulated k g w) b) 1 0 → r ≡ word_from 64 b (accumulated k g w)
-
-  module _ (keep goal : Lane) (p : keep ≡ lane_of k) (q : goal ≡ lane_of g) where
-    pub lane_accumulate :
-        (before r₀ r₁ r₂ r₃ : ℕ) → before / 2 ^ 63 ≡ pick w 1 0
-        → Forward (get_or keep.words 0 0) (get_or goal.words 0 0) before r₀
-        → Forward (get_or keep.words 1 0) (get_or goal.words 1 0) r₀ r₁
-        → Forward (get_or keep.words 2 0) (get_or goal.words 2 0) r₁ r₂
-        → Forward (get_or keep.words 3 0) (get_or goal.words 3 0) r₂ r₃
-        → ◌≡◌ {A = Lane} (record { words = r₀ ∷ r₁ ∷ r₂ ∷ r₃ ∷ [] }) (lane_of (accumulated k g w))
-    lane_accumulate before r₀ r₁ r₂ r₃ e c₀ c₁ c₂ c₃ =
-        let x : ℕ → Bool = accumulated k g w in
-        let w₀ = c₀ 0 k g w (word_at_0 keep k p) (word_at_0 goal g q) e in
-        let w₁ = c₁ 64 k g w (word_at_1 keep k p) (word_at_1 goal g q) (ap (λ y. y / 2 ^ 63) w₀ ∙ word_end 0 x) in
-        let w₂ = c₂ 128 k g w (word_at_2 keep k p) (word_at_2 goal g q) (ap (λ y. y / 2 ^ 63) w₁ ∙ word_end 64 x) in
-        let w₃ = c₃ 192 k g w (word_at_3 keep k p) (word_at_3 goal g q) (ap (λ y. y / 2 ^ 63) w₂ ∙ word_end 128 x) in
-        four x r₀ r₁ r₂ r₃ w₀ w₁ w₂ w₃
-
--- ---- one cycle earlier
-
--- what previous_from promises
-abbrev PreviousOf : ℕ → ℕ → ℕ → Type 0
-PreviousOf word before r = (b : ℕ) (f : ℕ → Bool) (w : Bool) → word ≡ word_from 64 b f → before / 2 ^ 63 ≡ pick (earlier w f b) 1 0 → r ≡ word_from 64 b (earlier w f)
-
-module _ (f : ℕ → Bool) (w : Bool) (lane : Lane) (p : lane ≡ lane_of f) where
-  pub lane_previous :
-      (before r₀ r₁ r₂ r₃ : ℕ) → before / 2 ^ 63 ≡ pick w 1 0
-      → PreviousOf (get_or lane.words 0 0) before r₀
-      → PreviousOf (get_or lane.words 1 0) (get_or lane.words 0 0) r₁
-      → PreviousOf (get_or lane.words 2 0) (get_or lane.words 1 0) r₂
-      → PreviousOf (get_or lane.words 3 0) (get_or lane.words 2 0) r₃
-      → ◌≡◌ {A = Lane} (record { words = r₀ ∷ r₁ ∷ r₂ ∷ r₃ ∷ [] }) (lane_of (earlier w f))
-  lane_previous before r₀ r₁ r₂ r₃ e n₀ n₁ n₂ n₃ = four (earlier w f) r₀ r₁ r₂ r₃
-      (n₀ 0 f w (word_at_0 lane f p) e)
-      (n₁ 64 f w (word_at_1 lane f p) (ap (λ x. x / 2 ^ 63) (word_at_0 lane f p) ∙ word_end 0 f))
-      (n₂ 128 f w (word_at_2 lane f p) (ap (λ x. x / 2 ^ 63) (word_at_1 lane f p) ∙ word_end 64 f))
-      (n₃ 192 f w (word_at_3 lane f p) (ap (λ x. x / 2 ^ 63) (word_at_2 lane f p) ∙ word_end 128 f))
 
 -- ---- one cycle alone
 

@@ -2,7 +2,6 @@ pub mod Words
 pub mod Stretches
 pub mod Windows
 pub mod Carries
-pub mod Accumulates
 pub mod LaneWords
 pub mod Masks
 pub mod Recordings

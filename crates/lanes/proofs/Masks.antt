@@ -1,8 +1,14 @@
 -- Any lane, of which only the cycles of another lane count. Assumes nothing.
-use Rattle.std.proofs.Common.{◌≡◌, ℕ, zero, suc, ◌-◌, ◌*◌, ◌/◌, ◌%◌, ◌^◌, min, Bool, true, false, ◌&&◌, eqb, [], ◌∷◌, get_or, ap, ◌∙◌, pow-suc, div-one, arith}
-use native.Mathlib.Nat.{pow-zero, div-div-eq-div-mul}
+use Prim.Native.Nat.{ℕ, zero, suc, ◌-◌, ◌*◌, ◌/◌, ◌%◌, ◌^◌, min}
+use mathlib.Core.Path.{◌≡◌, ap, ◌∙◌}
+use mathlib.Core.Bool.{Bool, true, false, ◌&&◌}
+use mathlib.Core.List.{[], ◌∷◌}
+use native.Mathlib.Nat.{pow-suc, pow-zero, div-one, div-div-eq-div-mul}
 use native.Mathlib.Decide.{ℕ_discrete}
+use native.Mathlib.Omega.{arith}
+use lib.Dec.{eqb}
 use lib.Bits.{bit_and, and_step, and_zero_r}
+use lib.ListN.{get_or}
 use Rattle.tables.specs.Choice.{pick}
 use Rattle.tables.specs.Bit.{bit_at, word_from, lane_of}
 use Rattle.tables.specs.declared.trace.Lane.{Lane}

@@ -1,6 +1,11 @@
 -- Carrying over a recording of n cycles: where keep and goal end with it, nothing comes from behind. Assumes nothing.
-use Rattle.std.proofs.Common.{◌≡◌, ℕ, ◌+◌, ◌-◌, ◌<◌, ◌≤◌, Bool, false, ◌&&◌, ltb, sym, ap, ◌∙◌, arith, le-ltb, lt-ltb}
+use Prim.Native.Nat.{ℕ, ◌+◌, ◌-◌, ◌≤◌, ◌<◌}
+use mathlib.Core.Path.{◌≡◌, sym, ap, ◌∙◌}
+use mathlib.Core.Bool.{Bool, false, ◌&&◌}
 use native.Mathlib.Decide.{dec_lt}
+use native.Mathlib.Omega.{arith}
+use lib.Dec.{ltb}
+use borrow.Author.Tests.{lt-ltb, le-ltb}
 use Rattle.tables.specs.Bit.{lane_of}
 use Rattle.tables.proofs.Bits.{lane_ext}
 use Rattle.meaning.specs.Approximant.{approximant}

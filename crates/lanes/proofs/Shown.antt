@@ -1,6 +1,11 @@
 -- Lanes that show a function at the cycles of a recording. Assumes nothing.
-use Rattle.std.proofs.Common.{◌≡◌, ℕ, ◌<◌, ◌≤◌, Bool, ◌&&◌, ltb, sym, ap, ◌∙◌, arith, le-ltb, lt-ltb}
+use Prim.Native.Nat.{ℕ, ◌≤◌, ◌<◌}
+use mathlib.Core.Path.{◌≡◌, sym, ap, ◌∙◌}
+use mathlib.Core.Bool.{Bool, ◌&&◌}
 use native.Mathlib.Decide.{dec_lt}
+use native.Mathlib.Omega.{arith}
+use lib.Dec.{ltb}
+use borrow.Author.Tests.{lt-ltb, le-ltb}
 use Rattle.tables.specs.Bit.{bit_at, lane_of}
 use Rattle.tables.specs.declared.trace.Lane.{Lane}
 use Rattle.tables.proofs.Bits.{bit_of_lane, lane_ext}

@@ -1,6 +1,9 @@
 -- Expansions of until to twice a depth, from those to the depth. Assumes nothing.
-use Rattle.std.proofs.Common.{◌≡◌, ℕ, zero, suc, ◌+◌, ◌/◌, ◌^◌, Bool, true, false, ◌&&◌, ◌||◌, sym, refl, ap, ◌∙◌, ap₂, add-zero, arith}
-use mathlib.Core.Path.{fun_ext}
+use Prim.Native.Nat.{ℕ, zero, suc, ◌+◌, ◌/◌, ◌^◌}
+use mathlib.Core.Path.{◌≡◌, refl, sym, ap, ap₂, ◌∙◌, fun_ext}
+use mathlib.Core.Bool.{Bool, true, false, ◌&&◌, ◌||◌}
+use native.Mathlib.Nat.{add-zero}
+use native.Mathlib.Omega.{arith}
 use Rattle.meaning.specs.Approximant.{expand, approximant}
 use lib.Bits.{bit_and, bit_or}
 use Rattle.tables.specs.Bit.{word_from}

@@ -1,5 +1,10 @@
 -- An expansion of until that looks no further than a cycle e, with x for what holds there. Assumes nothing.
-use Rattle.std.proofs.Common.{◌≡◌, ℕ, zero, suc, ◌+◌, ◌-◌, Bool, true, false, ◌&&◌, ◌||◌, eqb, ltb, refl, ap, ◌∙◌, arith, le-ltb, lt-ltb, eq-eqb, ne_eqb}
+use Prim.Native.Nat.{ℕ, zero, suc, ◌+◌, ◌-◌}
+use mathlib.Core.Path.{◌≡◌, refl, ap, ◌∙◌}
+use mathlib.Core.Bool.{Bool, true, false, ◌&&◌, ◌||◌}
+use native.Mathlib.Omega.{arith}
+use lib.Dec.{ltb, eqb}
+use borrow.Author.Tests.{lt-ltb, le-ltb, eq-eqb, ne_eqb}
 use Rattle.meaning.specs.Approximant.{expand, approximant}
 use Rattle.lanes.specs.Word.{Ends}
 use Rattle.lanes.proofs.Stretches.{goal_ends}
@@ -10,11 +15,11 @@ last true false true = refl
 last true false false = refl
 last false false x = refl
 
-not_last : (a b x y : Bool) → expand a (b || (a && (x && false))) y ≡ expand a b y
-not_last a true x y = refl
-not_last true false true y = refl
-not_last true false false y = refl
-not_last false false x y = refl
+earlier : (a b x y : Bool) → expand a (b || (a && (x && false))) y ≡ expand a b y
+earlier a true x y = refl
+earlier true false true y = refl
+earlier true false false y = refl
+earlier false false x y = refl
 
 module _ (e : ℕ) (k g : ℕ → Bool) (x : Bool) where
   -- keep and goal up to e; the goal at the last cycle takes in what holds at e
@@ -41,4 +46,4 @@ module _ (e : ℕ) (k g : ℕ → Bool) (x : Bool) where
       let z : suc (suc d) + t ≡ suc (suc d + t) = omega arith in
       ap (λ n. approximant keep_to goal_to false n i) z
       ∙ ap (expand (keep_to i) (goal_to i)) (window d t (suc i) (omega arith))
-      ∙ rw (lt-ltb i e (omega arith), ne_eqb (suc i) e (λ q. omega arith)) (not_last (k i) (g i) x _)
+      ∙ rw (lt-ltb i e (omega arith), ne_eqb (suc i) e (λ q. omega arith)) (earlier (k i) (g i) x _)

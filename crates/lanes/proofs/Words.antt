@@ -1,11 +1,15 @@
 -- Words as functions from cycles to Bools: and, or and shifts of words are those of the functions. Assumes nothing.
-use Rattle.std.proofs.Common.{◌≡◌, ℕ, zero, suc, ◌+◌, ◌-◌, ◌*◌, ◌/◌, ◌%◌, ◌^◌, min, max, Bool, true, false, not, ◌&&◌, ◌||◌, eqb, sym, refl, ap, ◌∙◌, ap₂, add-zero, pow-suc, div-one, arith, eq-eqb, ne_eqb}
-use mathlib.Core.Path.{fun_ext}
-use native.Mathlib.Nat.{pow-zero, div-div-eq-div-mul}
-use lib.Bits.{bit_and, bit_or, and_step, or_step, or_shifted}
+use Prim.Native.Nat.{ℕ, zero, suc, ◌+◌, ◌-◌, ◌*◌, ◌/◌, ◌%◌, ◌^◌, min, max}
+use mathlib.Core.Path.{◌≡◌, refl, sym, ap, ap₂, ◌∙◌, fun_ext}
+use mathlib.Core.Bool.{Bool, true, false, not, ◌&&◌, ◌||◌}
+use native.Mathlib.Nat.{pow-suc, pow-zero, div-one, div-div-eq-div-mul, add-zero}
+use native.Mathlib.Omega.{arith}
+use lib.Dec.{eqb}
+use borrow.Author.Tests.{eq-eqb, ne_eqb}
+use lib.Bits.{bit_and, bit_or, and_step, or_step}
 use Rattle.tables.specs.Choice.{pick}
 use Rattle.tables.specs.Bit.{word_from}
-use Rattle.tables.proofs.Bits.{digit, word_below, word_bit_lem}
+use Rattle.tables.proofs.Bits.{digit}
 use Rattle.lanes.specs.Word.{Ends}
 
 module _ (n b : ℕ) (f : ℕ → Bool) where
@@ -80,7 +84,7 @@ word_last (suc n) b =
     rw (ne_eqb (suc b) (b + suc (suc n)) (λ e. omega arith)) (rw (q, word_last n (suc b)) (omega (arith, pow-suc 2 n)))
 
 -- one bit more on top
-pub pick_double : (x : Bool) (m n : ℕ) → n ≡ 2 * m → pick x n 0 ≡ 2 * pick x m 0
+pick_double : (x : Bool) (m n : ℕ) → n ≡ 2 * m → pick x n 0 ≡ 2 * pick x m 0
 pick_double true m n e = e
 pick_double false m n e = refl
 
@@ -113,30 +117,6 @@ module _ (b : ℕ) (f : ℕ → Bool) (word bit : ℕ) (w : word ≡ word_from 6
 
   pub next_off : (bit ≡ 1 → ⊥) → word / 2 ≡ word_from 64 b (λ i. f (suc i))
   next_off q = let z = none (f (b + 64)) e q in let h = word_next b f in let y : word_from 64 b f / 2 + 0 ≡ word_from 64 b f / 2 = add-zero _ in rw w (sym y ∙ rw z at h)
-
--- ---- one cycle earlier
-
--- the last bit
-pub word_end : (b : ℕ) (f : ℕ → Bool) → word_from 64 b f / 2 ^ 63 ≡ pick (f (b + 63)) 1 0
-word_end b f = omega (arith, word_bit_lem 64 b f 63 (omega arith), word_below 64 b f)
-
--- all bits but the last
-word_start : (b : ℕ) (f : ℕ → Bool) → word_from 64 b f % 2 ^ 63 ≡ word_from 63 b f
-word_start b f = rw (word_push 63 b f) (by (f (b + 63)))
-  where
-    by : (x : Bool) → (word_from 63 b f + pick x (2 ^ 63) 0) % 2 ^ 63 ≡ word_from 63 b f
-    by true = omega (arith, word_below 63 b f)
-    by false = omega (arith, word_below 63 b f)
-
-doubled : (x : ℕ) → x * 2 % 2 ^ 64 ≡ x % 2 ^ 63 * 2 ^ 1
-doubled x = omega arith
-
-module _ (b : ℕ) (f : ℕ → Bool) (word bit : ℕ) (w : word ≡ word_from 64 b (λ i. f (suc i))) (e : bit ≡ pick (f b) 1 0) where
-  pub previous_word : bit_or (word * 2 % 2 ^ 64) bit ≡ word_from 64 b f
-  unfolding word_from
-  previous_word =
-      let low : word % 2 ^ 63 ≡ word_from 63 (suc b) f = rw w (word_start b (λ i. f (suc i))) ∙ sym (word_later 63 b f) in
-      rw (doubled word, low, e, or_shifted (word_from 63 (suc b) f) 1 (pick (f b) 1 0) (digit (f b))) (omega arith)
 
 -- ---- the first and not the second
 

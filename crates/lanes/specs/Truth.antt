@@ -1,5 +1,5 @@
 -- When a row is true at a cycle of a recording, and lanes that tell so. Assumes nothing.
-use Rattle.std.specs.Prelude.{◌≡◌, ℕ, suc, ◌-◌, ◌<◌, Bool, true, ◌&&◌, ◌↔◌, List, [], nat_lt, slice_index_or}
+use Rattle.std.specs.Prelude.{ℕ, suc, ◌-◌, ◌<◌, ◌≡◌, ◌↔◌, Bool, true, ◌&&◌, List, [], ltb, get_or}
 use Rattle.tables.specs.Bit.{bit_at, lane_of}
 use Rattle.tables.specs.declared.row.NormalForm.{NormalForm}
 use Rattle.tables.specs.declared.trace.Ending.{Ending}
@@ -13,11 +13,11 @@ use Rattle.meaning.specs.Strong.{RowStronglyTrue}
 
 -- a lane is f at each of the first n cycles, and 0 behind them
 abbrev pub Shows : ℕ → Lane → (ℕ → Bool) → Type 0
-Shows n lane f = lane ≡ lane_of (λ i. nat_lt i n && f i)
+Shows n lane f = lane ≡ lane_of (λ i. ltb i n && f i)
 
 -- lane k of a list of lanes; what a place behind it would hold
 abbrev pub lane_in : List Lane → ℕ → Lane
-lane_in lanes k = slice_index_or lanes k (record { words = [] })
+lane_in lanes k = get_or lanes k (record { words = [] })
 
 -- the bits of lanes by cycle and number, which counts from 1
 abbrev pub bit_in : List Lane → ℕ → ℕ → Bool

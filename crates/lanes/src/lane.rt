@@ -1,7 +1,7 @@
 // Lanes: up to 256 cycles in four words.
-ghost use Rattle.std.specs.Prelude.{◌≡◌, ℕ, suc, ◌-◌, ◌<◌, ◌≤◌, Bool, false, not, ◌&&◌, ◌||◌, nat_eq, nat_lt};
+ghost use Rattle.std.specs.Prelude.{◌≡◌, Bool, false, not, ◌&&◌, ◌||◌, ℕ, suc, ◌-◌, ◌≤◌, ◌<◌, ltb, eqb};
 ghost use Rattle.tables.specs.Bit.{bit_at, lane_of};
-ghost use Rattle.meaning.specs.Approximant.{accumulated, approximant, earlier};
+ghost use Rattle.meaning.specs.Approximant.{approximant};
 
 use tables::trace::Lane;
 
@@ -79,35 +79,6 @@ pub fn next(lane: Lane) -> Lane
     }
 }
 
-// At each cycle: the goal was met there or earlier, with keep since then; `before` says whether it was before the first cycle.
-pub fn accumulate(keep: Lane, goal: Lane, before: bool) -> Lane
-    ensures lane { (k g : ℕ → Bool) → keep ≡ lane_of k → goal ≡ lane_of g → result ≡ lane_of (accumulated k g before) }
-{
-    let k = keep.words;
-    let g = goal.words;
-    let a = crate::word::carry_forward(k[0], g[0], crate::word::ends_with(before));
-    let b = crate::word::carry_forward(k[1], g[1], a);
-    let c = crate::word::carry_forward(k[2], g[2], b);
-    let d = crate::word::carry_forward(k[3], g[3], c);
-    Lane {
-        words: [a, b, c, d],
-    }
-}
-
-// What held one cycle earlier; `before` says whether it held before the first cycle.
-pub fn previous(lane: Lane, before: bool) -> Lane
-    ensures lane { (f : ℕ → Bool) → lane ≡ lane_of f → result ≡ lane_of (earlier before f) }
-{
-    let w = lane.words;
-    let a = crate::word::previous_from(w[0], crate::word::ends_with(before));
-    let b = crate::word::previous_from(w[1], w[0]);
-    let c = crate::word::previous_from(w[2], w[1]);
-    let d = crate::word::previous_from(w[3], w[2]);
-    Lane {
-        words: [a, b, c, d],
-    }
-}
-
 // No cycle.
 pub fn none() -> Lane
     ensures answer { result ≡ lane_of (λ i. false) }
@@ -118,7 +89,7 @@ pub fn none() -> Lane
 // One cycle alone.
 fn single(cycle: usize) -> Lane
     requires { cycle < 256 }
-    ensures answer { result ≡ lane_of (λ i. nat_eq i cycle) }
+    ensures answer { result ≡ lane_of (λ i. eqb i cycle) }
 {
     tables::trace::with_bit(none(), cycle)
 }
@@ -126,7 +97,7 @@ fn single(cycle: usize) -> Lane
 // The last of so many cycles alone.
 fn last(cycles: usize) -> Lane
     requires { (1 ≤ cycles) × (cycles ≤ 256) }
-    ensures answer { result ≡ lane_of (λ i. nat_eq (suc i) cycles) }
+    ensures answer { result ≡ lane_of (λ i. eqb (suc i) cycles) }
 {
     single(cycles - 1)
 }
@@ -134,7 +105,7 @@ fn last(cycles: usize) -> Lane
 // So many cycles, all of them: those from which the last is still to come.
 pub fn all(cycles: usize) -> Lane
     requires { (1 ≤ cycles) × (cycles ≤ 256) }
-    ensures answer { result ≡ lane_of (λ i. nat_lt i cycles) }
+    ensures answer { result ≡ lane_of (λ i. ltb i cycles) }
 {
     let every = Lane {
         words: [0xffff_ffff_ffff_ffff; 4],

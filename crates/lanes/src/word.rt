@@ -1,8 +1,9 @@
 // One word: 64 cycles, the earliest lowest.
-ghost use Rattle.std.specs.Prelude.{◌≡◌, ℕ, suc, ◌+◌, ◌-◌, ◌/◌, ◌%◌, ◌^◌, ◌<◌, Bool, false, bit_and, bit_or};
+ghost use Rattle.std.specs.Prelude.{◌≡◌, Bool, false, ℕ, suc, ◌+◌, ◌-◌, ◌/◌, ◌%◌, ◌^◌, ◌<◌};
+ghost use Rattle.std.specs.Int.Bits.{bit_and, bit_or};
 ghost use Rattle.tables.specs.Choice.{pick};
 ghost use Rattle.tables.specs.Bit.{word_from};
-ghost use Rattle.meaning.specs.Approximant.{accumulated, approximant, earlier};
+ghost use Rattle.meaning.specs.Approximant.{approximant};
 ghost use Rattle.lanes.specs.Word.{Ends};
 
 // For each cycle: `keep` holds for some number of cycles from there on, `goal` is met within that number with keep before it.
@@ -59,34 +60,4 @@ pub fn next_from(word: u64, later: u64) -> u64
         return word / 2 + 0x8000_0000_0000_0000;
     }
     word / 2
-}
-
-// A word whose last bit is as given, to stand before the first word of a lane.
-pub fn ends_with(bit: bool) -> u64
-    ensures answer { result / 2 ^ 63 ≡ pick bit 1 0 }
-{
-    if bit {
-        return 0x8000_0000_0000_0000;
-    }
-    0
-}
-
-// At each cycle: the goal was met there or earlier, with keep since then; `before` is the word before this one, whose last bit says what
-// held there. That is how carries go through the sum of (keep or goal), goal and that bit: where keep is on without the goal, a
-// carry came in exactly where the sum's bit is off.
-pub fn carry_forward(keep: u64, goal: u64, before: u64) -> u64
-    ensures word { (b : ℕ) (k g : ℕ → Bool) (w : Bool) → keep ≡ word_from 64 b k → goal ≡ word_from 64 b g
-        → before / 2 ^ 63 ≡ pick (earlier w (accumulated k g w) b) 1 0 → result ≡ word_from 64 b (accumulated k g w) }
-{
-    let twofold = std::num::wrapping_add_u64(keep | goal, goal);
-    let sum = std::num::wrapping_add_u64(twofold, before >> 63);
-    goal | (keep - (keep & sum))
-}
-
-// What held one cycle earlier; the last bit of the word before comes in at the bottom.
-pub fn previous_from(word: u64, before: u64) -> u64
-    ensures word { (b : ℕ) (f : ℕ → Bool) (w : Bool) → word ≡ word_from 64 b f → before / 2 ^ 63 ≡ pick (earlier w f b) 1 0
-        → result ≡ word_from 64 b (earlier w f) }
-{
-    (word << 1) | (before >> 63)
 }

@@ -1,17 +1,15 @@
 -- Negation of the temporal operators: each pair of duals, over operands that are each other's negations. The dual excludes the
 -- operator in any reading (X-excludes); where the operator fails the dual holds in a full reading (X-else). Assumes nothing.
-use Prim.Native.Nat.{ℕ, zero, suc, ◌-◌, ◌≤◌, ◌<◌}
-use mathlib.Core.Path.{◌≡◌, refl, subst}
+use Prim.Native.Nat.{ℕ, suc, ◌≤◌, ◌<◌}
+use mathlib.Core.Path.{◌≡◌, subst}
 use mathlib.Core.Logic.{◌↔◌, ◌⊎◌, inl, inr}
 use mathlib.Core.Bool.{Bool, true, false, not}
 use native.Mathlib.Nat.{eq-or-lt_of_le}
-use native.Mathlib.Omega.{arith}
 use Rattle.meaning.specs.Reading.{Reading, Either}
-use Rattle.meaning.specs.Operator.{During, Next, Always, Ever, Until, Weak, Srelease, Release, Before, Wbefore, Once, Sofar, Since, Trigger}
-use Rattle.meaning.specs.Pattern.{Pattern, Pattern.now, Pattern.next, Pattern.connective, Pattern.previous, Pattern.temporal, Pattern.past}
-use Rattle.meaning.proofs.Readings.{Full, lt_or_le, induction_from, On, on_and_off}
-use Rattle.meaning.proofs.Pattern.{dual_pattern, Keep, Goal, Temporal, Past, Holds}
-use Rattle.meaning.proofs.Past.{since_past, trigger_past}
+use Rattle.meaning.specs.Operator.{During, Next, Always, Ever, Until, Weak, Srelease, Release}
+use Rattle.meaning.specs.Pattern.{Pattern, Pattern.now, Pattern.next, Pattern.connective, Pattern.temporal}
+use Rattle.meaning.proofs.Readings.{Full, lt_or_le, induction_from}
+use Rattle.meaning.proofs.Pattern.{dual_pattern, Keep, Goal, Temporal, Holds}
 use Rattle.meaning.proofs.MeaningByPattern.{srelease_until, release_weak}
 
 -- ---- operands and the dual's operands
@@ -93,39 +91,6 @@ module _ (R : Reading) (full : Full R) (K G K' G' : ℕ → Type 0) (kept : (j :
       by true n = full _ (λ n'. n (R.unit (inr (λ j l. (going (λ u. n (R.unit (inl u))) n' j l).0))))
       by false n = full _ (λ n'. n' (inr (λ j l. (going n (λ x. n' (inl (R.unit x))) j l).1)))
 
--- ---- since and weak since, likewise
-
-on_excludes : (w : Bool) → On (not w) → ¬ On w
-on_excludes true x y = on_and_off x refl
-on_excludes false x y = on_and_off y refl
-
-on_else : (w : Bool) → ¬ On w → On (not w)
-on_else true n = absurd (n refl)
-on_else false n = refl
-
-module _ (R : Reading) (K G K' G' : ℕ → Type 0) (gg : (j : ℕ) → G' j → G j → ⊥) (gk : (j : ℕ) → G' j → K j → ⊥)
-    (kg : (j : ℕ) → K' j → G j → ⊥) (w : Bool) where
-  -- in cycle j, where what both rest on excludes each other
-  cycle_excludes : (j : ℕ) {A A' : Type 0} → (A' → ¬ A) → G' j ⊎ (K' j × A') → G j ⊎ (K j × A) → ⊥
-  cycle_excludes j rest (inl y) (inl x) = gg j y x
-  cycle_excludes j rest (inl y) (inr x) = gk j y x.0
-  cycle_excludes j rest (inr y) (inl x) = kg j y.0 x
-  cycle_excludes j rest (inr y) (inr x) = rest y.1 x.1
-
-  past_excludes : (i : ℕ) → Past R K' G' (not w) i → ¬ Past R K G w i
-  past_excludes zero y x = R.sure y (λ y'. R.sure x (cycle_excludes 0 (on_excludes w) y'))
-  past_excludes (suc i) y x = R.sure y (λ y'. R.sure x (cycle_excludes (suc i) (past_excludes i) y'))
-
-module _ (R : Reading) (full : Full R) (K G K' G' : ℕ → Type 0) (kept : (j : ℕ) → ¬ G j → ¬ G' j → K j × K' j) (w : Bool) where
-  cycle_else : (j : ℕ) {A A' : Type 0} → (¬ A → A') → ¬ Either R (G j) (K j × A) → Either R (G' j) (K' j × A')
-  cycle_else j rest n = full _ (λ n'.
-      let both = kept j (λ x. n (R.unit (inl x))) (λ x. n' (inl x)) in
-      n' (inr (both.1, rest (λ x. n (R.unit (inr (both.0, x)))))))
-
-  past_else : (i : ℕ) → ¬ Past R K G w i → Past R K' G' (not w) i
-  past_else zero = cycle_else 0 (on_else w)
-  past_else (suc i) = cycle_else (suc i) (past_else i)
-
 -- ---- the patterns
 
 module _ (R : Reading) (P Q P' Q' : ℕ → Type 0) (p : Exclude P P') (q : Exclude Q Q') where
@@ -142,10 +107,6 @@ module _ (R : Reading) (P Q P' Q' : ℕ → Type 0) (p : Exclude P P') (q : Excl
       side : P i × Q i → P' i ⊎ Q' i → ⊥
       side y (inl x) = p i x y.0
       side y (inr x) = q i x y.1
-  holds_excludes (previous w) zero = on_excludes w
-  holds_excludes (previous w) (suc i) = q i
-  holds_excludes (past f w) i =
-      past_excludes R _ _ _ _ (λ j. goal_goal f (p j) (q j)) (λ j. goal_keep f (p j) (q j)) (λ j. keep_goal f (p j) (q j)) w i
   holds_excludes (temporal f w) i =
       temporal_excludes R _ _ _ _ (λ j. goal_goal f (p j) (q j)) (λ j. goal_keep f (p j) (q j)) (λ j. keep_goal f (p j) (q j)) i w
 
@@ -155,9 +116,6 @@ module _ (R : Reading) (full : Full R) (P Q P' Q' : ℕ → Type 0) (p : Cover P
   holds_else next i = (q (suc i)).0
   holds_else (connective true) i = λ n. ((p i).0 (λ x. n (R.unit (inl x))), (q i).0 (λ x. n (R.unit (inr x))))
   holds_else (connective false) i = λ n. full _ (λ n'. n ((p i).1 (λ x. n' (inl x)), (q i).1 (λ x. n' (inr x))))
-  holds_else (previous w) zero = on_else w
-  holds_else (previous w) (suc i) = (q i).0
-  holds_else (past f w) i = past_else R full _ _ _ _ (λ j. both_keep f (p j).0 (q j).0 (p j).1 (q j).1) w i
   holds_else (temporal f w) i = temporal_else R full _ _ _ _ (λ j. both_keep f (p j).0 (q j).0 (p j).1 (q j).1) i w
 
 -- ---- the operators of one operand
@@ -169,52 +127,12 @@ module _ (R : Reading) (a a' : ℕ → Type 0) (p : Exclude a a') (i : ℕ) wher
   pub ever_excludes : Always a' i → ¬ Ever R a i
   ever_excludes h m = R.sure m (λ x. p x.0 (h x.0 x.1.0) x.1.1)
 
-  pub before_excludes : Wbefore R a' i → ¬ Before a i
-  before_excludes m x = R.sure m side
-    where
-      side : (i ≡ 0) ⊎ a' (i - 1) → ⊥
-      side (inl e) = let l = x.0 in absurd (omega arith)
-      side (inr y) = p (i - 1) y x.1
-
-  pub wbefore_excludes : Before a' i → ¬ Wbefore R a i
-  wbefore_excludes x m = R.sure m side
-    where
-      side : (i ≡ 0) ⊎ a (i - 1) → ⊥
-      side (inl e) = let l = x.0 in absurd (omega arith)
-      side (inr y) = p (i - 1) x.1 y
-
-  pub once_excludes : Sofar a' i → ¬ Once R a i
-  once_excludes h m = R.sure m (λ x. p x.0 (h x.0 x.1.0) x.1.1)
-
-  pub sofar_excludes : Once R a' i → ¬ Sofar a i
-  sofar_excludes m h = R.sure m (λ x. p x.0 x.1.1 (h x.0 x.1.0))
-
 module _ (R : Reading) (full : Full R) (a a' : ℕ → Type 0) (p : Cover a a') (i : ℕ) where
   pub always_else : ¬ Always a i → Ever R a' i
   always_else n = full _ (λ n'. n (λ j l. (p j).1 (λ x. n' (j, (l, x)))))
 
   pub ever_else : ¬ Ever R a i → Always a' i
   ever_else n = λ j l. (p j).0 (λ x. n (R.unit (j, (l, x))))
-
-  pub before_else : ¬ Before a i → Wbefore R a' i
-  before_else n = full _ (λ n'. by n' (lt_or_le 0 i))
-    where
-      by : ¬ ((i ≡ 0) ⊎ a' (i - 1)) → (0 < i) ⊎ (i ≤ 0) → ⊥
-      by n' (inl h) = n (h, (p (i - 1)).1 (λ x. n' (inr x)))
-      by n' (inr h) = n' (inl (omega arith))
-
-  pub wbefore_else : ¬ Wbefore R a i → Before a' i
-  wbefore_else n = by (lt_or_le 0 i)
-    where
-      by : (0 < i) ⊎ (i ≤ 0) → Before a' i
-      by (inl h) = (h, (p (i - 1)).0 (λ x. n (R.unit (inr x))))
-      by (inr h) = absurd (n (R.unit (inl (omega arith))))
-
-  pub once_else : ¬ Once R a i → Sofar a' i
-  once_else n = λ j l. (p j).0 (λ x. n (R.unit (j, (l, x))))
-
-  pub sofar_else : ¬ Sofar a i → Once R a' i
-  sofar_else n = full _ (λ n'. n (λ j l. (p j).1 (λ x. n' (j, (l, x)))))
 
 module _ (R : Reading) (full : Full R) (a a' : ℕ → Type 0) (p : Opposite a a') (i : ℕ) where
   pub not_next : (¬ Next a i) ↔ Next a' i
@@ -225,19 +143,6 @@ module _ (R : Reading) (full : Full R) (a a' : ℕ → Type 0) (p : Opposite a a
 
   pub not_ever : (¬ Ever R a i) ↔ Always a' i
   not_ever = (ever_else R full a a' (cover p) i, ever_excludes R a a' (exclude p) i)
-
-  -- "¬Yφ ≡ Z¬φ and ¬Zφ ≡ Y¬φ" (document 003)
-  pub not_before : (¬ Before a i) ↔ Wbefore R a' i
-  not_before = (before_else R full a a' (cover p) i, before_excludes R a a' (exclude p) i)
-
-  pub not_wbefore : (¬ Wbefore R a i) ↔ Before a' i
-  not_wbefore = (wbefore_else R full a a' (cover p) i, wbefore_excludes R a a' (exclude p) i)
-
-  pub not_once : (¬ Once R a i) ↔ Sofar a' i
-  not_once = (once_else R full a a' (cover p) i, once_excludes R a a' (exclude p) i)
-
-  pub not_sofar : (¬ Sofar a i) ↔ Once R a' i
-  not_sofar = (sofar_else R full a a' (cover p) i, sofar_excludes R a a' (exclude p) i)
 
 -- ---- of two operands
 
@@ -260,12 +165,6 @@ module _ (R : Reading) (a b a' b' : ℕ → Type 0) (p : Exclude a a') (q : Excl
   pub srelease_excludes : Weak R a' b' i → ¬ Srelease R a b i
   srelease_excludes x y = holds_excludes R a b a' b' p q (temporal false false) i x ((srelease_until R a b i).0 y)
 
-  pub since_excludes : Trigger R a' b' i → ¬ Since R a b i
-  since_excludes x y = holds_excludes R a b a' b' p q (past true false) i ((trigger_past R a' b' i).0 x) ((since_past R a b i).0 y)
-
-  pub trigger_excludes : Since R a' b' i → ¬ Trigger R a b i
-  trigger_excludes x y = holds_excludes R a b a' b' p q (past false true) i ((since_past R a' b' i).0 x) ((trigger_past R a b i).0 y)
-
 module _ (R : Reading) (full : Full R) (a b a' b' : ℕ → Type 0) (p : Cover a a') (q : Cover b b') (i : ℕ) where
   pub and_else : ¬ (a i × b i) → Either R (a' i) (b' i)
   and_else = holds_else R full a b a' b' p q (connective false) i
@@ -285,12 +184,6 @@ module _ (R : Reading) (full : Full R) (a b a' b' : ℕ → Type 0) (p : Cover a
   pub srelease_else : ¬ Srelease R a b i → Weak R a' b' i
   srelease_else n = holds_else R full a b a' b' p q (temporal false false) i (λ x. n ((srelease_until R a b i).1 x))
 
-  pub since_else : ¬ Since R a b i → Trigger R a' b' i
-  since_else n = (trigger_past R a' b' i).1 (holds_else R full a b a' b' p q (past true false) i (λ x. n ((since_past R a b i).1 x)))
-
-  pub trigger_else : ¬ Trigger R a b i → Since R a' b' i
-  trigger_else n = (since_past R a' b' i).1 (holds_else R full a b a' b' p q (past false true) i (λ x. n ((trigger_past R a b i).1 x)))
-
 module _ (R : Reading) (full : Full R) (a b a' b' : ℕ → Type 0) (p : Opposite a a') (q : Opposite b b') (i : ℕ) where
   pub not_and : (¬ (a i × b i)) ↔ Either R (a' i) (b' i)
   not_and = (and_else R full a b a' b' (cover p) (cover q) i, and_excludes R a b a' b' (exclude p) (exclude q) i)
@@ -309,9 +202,3 @@ module _ (R : Reading) (full : Full R) (a b a' b' : ℕ → Type 0) (p : Opposit
 
   pub not_srelease : (¬ Srelease R a b i) ↔ Weak R a' b' i
   not_srelease = (srelease_else R full a b a' b' (cover p) (cover q) i, srelease_excludes R a b a' b' (exclude p) (exclude q) i)
-
-  pub not_since : (¬ Since R a b i) ↔ Trigger R a' b' i
-  not_since = (since_else R full a b a' b' (cover p) (cover q) i, since_excludes R a b a' b' (exclude p) (exclude q) i)
-
-  pub not_trigger : (¬ Trigger R a b i) ↔ Since R a' b' i
-  not_trigger = (trigger_else R full a b a' b' (cover p) (cover q) i, trigger_excludes R a b a' b' (exclude p) (exclude q) i)

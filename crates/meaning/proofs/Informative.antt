@@ -2,30 +2,27 @@
 -- strongly true at cycle 0, in any reading (informative-strong). So each infinite trace that begins with an informative prefix
 -- satisfies the formula (informative-continued). Normal forms only: no row is a `not`. Assumes nothing.
 use Prim.Native.Nat.{ℕ, zero, suc, ◌+◌, ◌-◌, ◌≤◌, ◌<◌}
-use mathlib.Core.Path.{◌≡◌, refl, subst, subst⁻¹}
+use mathlib.Core.Path.{◌≡◌, subst, subst⁻¹}
 use mathlib.Core.Logic.Iff
 use mathlib.Core.Logic.{◌↔◌, ◌⊎◌, inl, inr}
-use mathlib.Core.Bool.{Bool, true, false}
+use mathlib.Core.Bool.{true, false}
 use native.Mathlib.Nat.{eq-or-lt_of_le}
 use native.Mathlib.Omega.{arith}
 use Rattle.tables.specs.declared.row.UnaryKind.{UnaryKind}
-use Rattle.tables.specs.declared.row.UnaryKind.TheVariants.{Not, Next, Always, Ever, Before, Wbefore, Once, Sofar}
+use Rattle.tables.specs.declared.row.UnaryKind.TheVariants.{Not, Next, Always, Ever}
 use Rattle.tables.specs.declared.row.BinaryKind.{BinaryKind}
-use Rattle.tables.specs.declared.row.BinaryKind.TheVariants.{And, Or, Weak, Until, Release, Srelease, Since, Trigger}
+use Rattle.tables.specs.declared.row.BinaryKind.TheVariants.{And, Or, Weak, Until, Release, Srelease}
 use Rattle.tables.specs.declared.row.Row.{Row}
 use Rattle.tables.specs.declared.row.Row.TheVariants.{Constant, Signal, Unary, Binary}
 use Rattle.meaning.specs.Reading.{Reading}
-use Rattle.meaning.specs.Approximant.{earlier}
 use Rattle.meaning.specs.Trace.{InfiniteTrace}
 use Rattle.meaning.specs.Satisfaction.{Table, RowTrue}
 use Rattle.meaning.specs.Strong.{StrongEver, StrongUntil, StrongSrelease, StrongUnaryMeans, StrongBinaryMeans, StrongMeans, RowStronglyTrue}
-use Rattle.meaning.specs.Informative.{Labels, Member, MemberBefore, UnaryCondition, BinaryCondition, Condition, Labelling, Informative}
+use Rattle.meaning.specs.Informative.{Labels, Member, UnaryCondition, BinaryCondition, Condition, Labelling, Informative}
 use Rattle.meaning.specs.Rows.{Each, Ordered, Positive}
-use Rattle.meaning.proofs.Readings.{row_induction, during_cons, during_snoc, On, on_and_off, on_or_off, sum_map}
+use Rattle.meaning.proofs.Readings.{row_induction, during_cons, during_snoc, on_and_off, on_or_off, sum_map}
 use Rattle.meaning.proofs.Rows.{each_map, each_signal}
 use Rattle.meaning.proofs.Truth.{strongly_true_means}
-use Rattle.meaning.proofs.Pattern.{Past}
-use Rattle.meaning.proofs.Past.{since_past, trigger_past, once_past, sofar_past, before_earlier, wbefore_earlier}
 use Rattle.meaning.proofs.Evaluation.{bits_of, bits_computed}
 use Rattle.meaning.proofs.StrongTruth.{Inside, cycles_below, strong_true}
 use Rattle.meaning.proofs.Prefix.{prefix, to_end, prefix_truth, prefix_readings}
@@ -83,18 +80,6 @@ module _ (n : ℕ) (w : InfiniteTrace) (L : Labels) (v : ℕ → ℕ → Type 0)
           let s = (q j (omega arith) d.0).1 in
           sum_map (λ m. ((p j (omega arith) m).1, s)) (λ m. (s, m)) d.1
 
-  -- one cycle earlier, where `first` stands for w before the first cycle
-  told_earlier : (a : ℕ) → Told a → (first : Type 0) (w : Bool) → (first → On w) → (i : ℕ) → i < n → MemberBefore L first a i → earlier (On w) (v a) i
-  told_earlier a p first w f zero h x = f x
-  told_earlier a p first w f (suc i) h x = (p i (omega arith) x).1
-
-  -- what goes on from one cycle earlier
-  past_met :
-      (K G : ℕ → Type 0) (first : Type 0) (w : Bool) → (first → On w)
-      → ((i : ℕ) → i < n → Member L i k → G i ⊎ (K i × MemberBefore L first k i)) → (i : ℕ) → i < n → Member L i k → Past direct K G w i
-  past_met K G first w f c zero h x = sum_map (λ g. g) (λ y. (y.0, f y.1)) (c 0 h x)
-  past_met K G first w f c (suc i) h x = sum_map (λ g. g) (λ y. (y.0, past_met K G first w f c i (omega arith) y.1)) (c (suc i) h x)
-
   -- so is the row k, which is r, where its conditions are met
   unary_means :
       (a : ℕ) → Told a → (c : UnaryKind) → ((i : ℕ) → i < n → Member L i k → UnaryCondition L c a k i)
@@ -104,14 +89,6 @@ module _ (n : ℕ) (w : InfiniteTrace) (L : Labels) (v : ℕ → ℕ → Type 0)
   unary_means a p Always m i h x =
       (met n (λ j. Member L j k) (λ j. Unit {0}) (λ j. ⊥) (λ j l y. inr (tt, (m j l y).1)) end i h x).1.2
   unary_means a p Ever m i h x = ever_met a p m i h x
-  unary_means a p Before m i h x =
-      (before_earlier direct (v a) (λ j y. y) i).1 (told_earlier a p ⊥ false (λ y. absurd y) i h (m i h x))
-  unary_means a p Wbefore m i h x =
-      (wbefore_earlier direct (v a) (λ j y. y) i).1 (told_earlier a p (Unit {0}) true (λ y. refl) i h (m i h x))
-  unary_means a p Once m i h x = (once_past direct (v a) i).1 (past_met (λ j. On true) (v a) ⊥ false (λ y. absurd y)
-      (λ j l y. sum_map (λ z. (p j (omega arith) z).1) (λ z. (refl, z)) (m j l y)) i h x)
-  unary_means a p Sofar m i h x = (sofar_past direct (v a) (λ j y. y) i).1 (past_met (v a) (λ j. On false × v a j) (Unit {0}) true (λ y. refl)
-      (λ j l y. let z = m j l y in inr ((p j (omega arith) z.0).1, z.1)) i h x)
 
   binary_means :
       (a b : ℕ) → Told a → Told b → (c : BinaryKind) → ((i : ℕ) → i < n → Member L i k → BinaryCondition L c a b k i)
@@ -122,15 +99,6 @@ module _ (n : ℕ) (w : InfiniteTrace) (L : Labels) (v : ℕ → ℕ → Type 0)
   binary_means a b p q Until m i h x = until_met a b p q m i h x
   binary_means a b p q Release m i h x = srelease_met a b p q m i h x
   binary_means a b p q Srelease m i h x = srelease_met a b p q m i h x
-  binary_means a b p q Since m i h x = (since_past direct (v a) (v b) i).1 (past_met (v a) (v b) ⊥ false (λ y. absurd y)
-      (λ j l y. sum_map (λ z. (q j (omega arith) z).1) (λ z. ((p j (omega arith) z.0).1, z.1)) (m j l y)) i h x)
-  binary_means a b p q Trigger m i h x = (trigger_past direct (v a) (v b) i).1 (past_met (v b) (λ j. v a j × v b j) (Unit {0}) true (λ y. refl) step i h x)
-    where
-      step : (j : ℕ) → j < n → Member L j k → (v a j × v b j) ⊎ (v b j × MemberBefore L (Unit {0}) k j)
-      step j l y =
-          let z = m j l y in
-          let s = (q j (omega arith) z.0).1 in
-          sum_map (λ u. ((p j (omega arith) u).1, s)) (λ u. (s, u)) z.1
 
   labels_mean :
       (r : Row) → Each Told r → ((i : ℕ) → i < n → Member L i k → Condition w L r k i)
@@ -167,11 +135,6 @@ module _ (n : ℕ) (P Q : ℕ → Type 0) (i : ℕ) where
       by (inl e) = inl (subst⁻¹ P e x.1.2)
       by (inr l) = let j<n = x.1.1 in inr (omega arith, (x.0, (l, j<n, x.1.2, λ m a b. x.1.3 m (omega arith) b)))
 
--- since and weak since at cycle i, by cycle i and what they say one cycle earlier
-past_step : (K G : ℕ → Type 0) (w : Bool) (i : ℕ) → Past direct K G w i → G i ⊎ (K i × earlier (On w) (Past direct K G w) i)
-past_step K G w zero x = x
-past_step K G w (suc i) x = x
-
 module _ (n : ℕ) (w : InfiniteTrace) (L : Labels) (v : ℕ → ℕ → Type 0) (k : ℕ) where
   -- L has the operand a where it is strongly true below n
   abbrev Listed : ℕ → Type 0
@@ -190,49 +153,6 @@ module _ (n : ℕ) (w : InfiniteTrace) (L : Labels) (v : ℕ → ℕ → Type 0)
       let y = srelease_step n (v a) (v b) i x in
       (q i (h, y.0), sum_map (λ z. p i (h, z)) (c (suc i)) y.1)
 
-  -- L has the row a one cycle earlier, where it has it wherever P holds
-  listed_earlier :
-      (P : ℕ → Type 0) (a : ℕ) → ((i : ℕ) → Inside n P i → Member L i a) → (first : Type 0) (b : Bool) → (On b → first) → (i : ℕ) → i < n
-      → earlier (On b) P i → MemberBefore L first a i
-  listed_earlier P a p first b f zero h x = f x
-  listed_earlier P a p first b f (suc i) h x = p i (omega arith, x)
-
-  since_condition :
-      (a b : ℕ) → Listed a → Listed b → ((i : ℕ) → Inside n (Past direct (v a) (v b) false) i → Member L i k) → (i : ℕ) → i < n
-      → Past direct (v a) (v b) false i → Member L i b ⊎ (Member L i a × MemberBefore L ⊥ k i)
-  since_condition a b p q c i h x = sum_map (λ y. q i (h, y))
-      (λ y. (p i (h, y.0), listed_earlier (Past direct (v a) (v b) false) k c ⊥ false (λ e. on_and_off e refl) i h y.1))
-      (past_step (v a) (v b) false i x)
-
-  trigger_condition :
-      (a b : ℕ) → Listed a → Listed b → ((i : ℕ) → Inside n (Past direct (v b) (λ j. v a j × v b j) true) i → Member L i k) → (i : ℕ) → i < n
-      → Past direct (v b) (λ j. v a j × v b j) true i → Member L i b × (Member L i a ⊎ MemberBefore L (Unit {0}) k i)
-  trigger_condition a b p q c i h x = by (past_step (v b) (λ j. v a j × v b j) true i x)
-    where
-      by :
-          (v a i × v b i) ⊎ (v b i × earlier (On true) (Past direct (v b) (λ j. v a j × v b j) true) i)
-          → Member L i b × (Member L i a ⊎ MemberBefore L (Unit {0}) k i)
-      by (inl y) = (q i (h, y.1), inl (p i (h, y.0)))
-      by (inr y) = (q i (h, y.0), inr (listed_earlier (Past direct (v b) (λ j. v a j × v b j) true) k c (Unit {0}) true (λ e. tt) i h y.1))
-
-  once_condition :
-      (a : ℕ) → Listed a → ((i : ℕ) → Inside n (Past direct (λ j. On true) (v a) false) i → Member L i k) → (i : ℕ) → i < n
-      → Past direct (λ j. On true) (v a) false i → Member L i a ⊎ MemberBefore L ⊥ k i
-  once_condition a p c i h x = sum_map (λ y. p i (h, y))
-      (λ y. listed_earlier (Past direct (λ j. On true) (v a) false) k c ⊥ false (λ e. on_and_off e refl) i h y.1)
-      (past_step (λ j. On true) (v a) false i x)
-
-  sofar_condition :
-      (a : ℕ) → Listed a → ((i : ℕ) → Inside n (Past direct (v a) (λ j. On false × v a j) true) i → Member L i k) → (i : ℕ) → i < n
-      → Past direct (v a) (λ j. On false × v a j) true i → Member L i a × MemberBefore L (Unit {0}) k i
-  sofar_condition a p c i h x = by (past_step (v a) (λ j. On false × v a j) true i x)
-    where
-      by :
-          (On false × v a i) ⊎ (v a i × earlier (On true) (Past direct (v a) (λ j. On false × v a j) true) i)
-          → Member L i a × MemberBefore L (Unit {0}) k i
-      by (inl y) = on_and_off y.0 refl
-      by (inr y) = (p i (h, y.0), listed_earlier (Past direct (v a) (λ j. On false × v a j) true) k c (Unit {0}) true (λ e. tt) i h y.1)
-
   -- the row k, which is r, meets its conditions where it is strongly true and L has it wherever it is
   unary_conditions :
       (a : ℕ) → Listed a → (c : UnaryKind) → ((i : ℕ) → Inside n (StrongUnaryMeans direct n c (v a)) i → Member L i k)
@@ -241,14 +161,6 @@ module _ (n : ℕ) (w : InfiniteTrace) (L : Labels) (v : ℕ → ℕ → Type 0)
   unary_conditions a p Next m i h x = p (suc i) x
   unary_conditions a p Always m i h x = absurd x
   unary_conditions a p Ever m i h x = sum_map (λ y. p i (h, y)) (m (suc i)) (ever_step n (v a) i x)
-  unary_conditions a p Before m i h x =
-      listed_earlier (v a) a p ⊥ false (λ e. on_and_off e refl) i h ((before_earlier direct (v a) (λ j y. y) i).0 x)
-  unary_conditions a p Wbefore m i h x =
-      listed_earlier (v a) a p (Unit {0}) true (λ e. tt) i h ((wbefore_earlier direct (v a) (λ j y. y) i).0 x)
-  unary_conditions a p Once m i h x =
-      once_condition a p (λ j y. m j (y.0, (once_past direct (v a) j).1 y.1)) i h ((once_past direct (v a) i).0 x)
-  unary_conditions a p Sofar m i h x =
-      sofar_condition a p (λ j y. m j (y.0, (sofar_past direct (v a) (λ j z. z) j).1 y.1)) i h ((sofar_past direct (v a) (λ j z. z) i).0 x)
 
   binary_conditions :
       (a b : ℕ) → Listed a → Listed b → (c : BinaryKind)
@@ -260,10 +172,6 @@ module _ (n : ℕ) (w : InfiniteTrace) (L : Labels) (v : ℕ → ℕ → Type 0)
   binary_conditions a b p q Until m i h x = until_condition a b p q m i h x
   binary_conditions a b p q Release m i h x = srelease_condition a b p q m i h x
   binary_conditions a b p q Srelease m i h x = srelease_condition a b p q m i h x
-  binary_conditions a b p q Since m i h x =
-      since_condition a b p q (λ j y. m j (y.0, (since_past direct (v a) (v b) j).1 y.1)) i h ((since_past direct (v a) (v b) i).0 x)
-  binary_conditions a b p q Trigger m i h x =
-      trigger_condition a b p q (λ j y. m j (y.0, (trigger_past direct (v a) (v b) j).1 y.1)) i h ((trigger_past direct (v a) (v b) i).0 x)
 
   strong_conditions :
       (r : Row) → Each Listed r → ((i : ℕ) → Inside n (StrongMeans direct n w v r) i → Member L i k)

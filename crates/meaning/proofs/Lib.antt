@@ -4,7 +4,6 @@ pub mod Reach
 pub mod Monotone
 pub mod Truth
 pub mod Pattern
-pub mod Past
 pub mod Nesting
 pub mod MeaningByPattern
 pub mod Unfolding
@@ -14,7 +13,6 @@ pub mod Locality
 pub mod Periodic
 pub mod Streams
 pub mod Carry
-pub mod Accumulated
 pub mod PatternBits
 pub mod Evaluation
 pub mod Lasso

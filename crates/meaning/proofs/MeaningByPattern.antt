@@ -1,6 +1,6 @@
 -- The one lemma between the meaning and the patterns (means-pattern); that patterns are monotone; and that all truths are stable: a
 -- reading of a truth is that truth (interprets-stable). Assumes nothing.
-use Prim.Native.Nat.{ℕ, zero, suc, ◌≤◌, ◌<◌}
+use Prim.Native.Nat.{ℕ, suc, ◌≤◌, ◌<◌}
 use mathlib.Core.Path.{◌≡◌, refl}
 use mathlib.Core.Logic.{◌↔◌, ◌⊎◌, inl, inr}
 use mathlib.Core.Bool.{Bool, true, false}
@@ -10,9 +10,9 @@ use Rattle.tables.specs.declared.row.ConstantKind.TheVariants.{True, False}
 use Rattle.tables.specs.declared.row.SignalKind.{SignalKind}
 use Rattle.tables.specs.declared.row.SignalKind.TheVariants.{Sig, Nsig}
 use Rattle.tables.specs.declared.row.UnaryKind.{UnaryKind}
-use Rattle.tables.specs.declared.row.UnaryKind.TheVariants.{Not, Next, Always, Ever, Before, Wbefore, Once, Sofar}
+use Rattle.tables.specs.declared.row.UnaryKind.TheVariants.{Not, Next, Always, Ever}
 use Rattle.tables.specs.declared.row.BinaryKind.{BinaryKind}
-use Rattle.tables.specs.declared.row.BinaryKind.TheVariants.{And, Or, Weak, Until, Release, Srelease, Since, Trigger}
+use Rattle.tables.specs.declared.row.BinaryKind.TheVariants.{And, Or, Weak, Until, Release, Srelease}
 use Rattle.tables.specs.declared.row.Row.{Row}
 use Rattle.tables.specs.declared.row.Row.TheVariants.{Constant, Signal, Unary, Binary}
 use Rattle.meaning.specs.Reading.{Reading}
@@ -20,13 +20,12 @@ use Rattle.meaning.specs.Operator as operator
 use Rattle.meaning.specs.Trace.{InfiniteTrace}
 use Rattle.meaning.specs.Satisfaction.{Table, ConstantMeans, SignalMeans, UnaryMeans, BinaryMeans, Means, RowTrue}
 use Rattle.meaning.specs.Rows.{Each, Ordered, positive}
-use Rattle.meaning.specs.Pattern.{Pattern, Pattern.now, Pattern.next, Pattern.connective, Pattern.previous, Pattern.temporal, Pattern.past}
+use Rattle.meaning.specs.Pattern.{Pattern, Pattern.now, Pattern.next, Pattern.connective, Pattern.temporal}
 use Rattle.meaning.specs.Pattern.{Operand.row, constant_bit, signal_sign, unary_left, unary_pattern, binary_pattern, left, right, pattern_of}
 use Rattle.meaning.proofs.Readings.{map, some_map, either_map, into_itself, Stable, stable_on, stable_equal, stable_not, iff_refl, row_induction, On, on_and_off, during_snoc}
 use Rattle.meaning.proofs.Rows.{each_map}
 use Rattle.meaning.proofs.Monotone.{until_map, weak_map}
-use Rattle.meaning.proofs.Pattern.{Keep, Goal, Keeps, Goals, Past, Holds, PatternMeans, Signed, OperandTrue, both_operands}
-use Rattle.meaning.proofs.Past.{past_stable, since_past, trigger_past, once_past, sofar_past, before_earlier, wbefore_earlier}
+use Rattle.meaning.proofs.Pattern.{Keep, Goal, Holds, PatternMeans, Signed, OperandTrue, both_operands}
 use Rattle.meaning.proofs.Truth.{Interprets, every_cycle, truth_interprets}
 
 -- ---- the operators as until and weak until
@@ -68,10 +67,6 @@ module _ (R : Reading) (a : ℕ → Type 0) (stable : (j : ℕ) → Stable R (a 
   unary_pattern_lem Next = iff_refl
   unary_pattern_lem Always = always_weak R a i stable
   unary_pattern_lem Ever = ever_until R a i
-  unary_pattern_lem Before = before_earlier R a stable i
-  unary_pattern_lem Wbefore = wbefore_earlier R a stable i
-  unary_pattern_lem Once = once_past R a i
-  unary_pattern_lem Sofar = sofar_past R a stable i
 
 module _ (R : Reading) (a b : ℕ → Type 0) (i : ℕ) where
   binary_pattern_lem : (c : BinaryKind) → BinaryMeans R c a b i ↔ Holds R a b (binary_pattern c) i
@@ -81,8 +76,6 @@ module _ (R : Reading) (a b : ℕ → Type 0) (i : ℕ) where
   binary_pattern_lem Until = iff_refl
   binary_pattern_lem Release = release_weak R a b i
   binary_pattern_lem Srelease = srelease_until R a b i
-  binary_pattern_lem Since = since_past R a b i
-  binary_pattern_lem Trigger = trigger_past R a b i
 
 module _ (R : Reading) (w : InfiniteTrace) (v : ℕ → ℕ → Type 0) (i : ℕ) where
   pub means_pattern : (r : Row) → Each (λ a. (j : ℕ) → Stable R (v a j)) r → Means R w v r i ↔ PatternMeans R w v r i
@@ -101,20 +94,12 @@ goal_map : (f : Bool) {A B C D : Type 0} → (A → C) → (B → D) → Goal f 
 goal_map true p q = q
 goal_map false p q = λ x. (p x.0, q x.1)
 
-module _ (R : Reading) (K G K' G' : ℕ → Type 0) (w : Bool) (k : (j : ℕ) → K j → K' j) (g : (j : ℕ) → G j → G' j) where
-  past_map : (i : ℕ) → Past R K G w i → Past R K' G' w i
-  past_map zero = either_map R (g 0) (λ x. (k 0 x.0, x.1))
-  past_map (suc i) = either_map R (g (suc i)) (λ x. (k (suc i) x.0, past_map i x.1))
-
 module _ (R : Reading) (P Q P' Q' : ℕ → Type 0) (p : (j : ℕ) → P j → P' j) (q : (j : ℕ) → Q j → Q' j) where
   pub holds_map : (x : Pattern) (i : ℕ) → Holds R P Q x i → Holds R P' Q' x i
   holds_map now i = q i
   holds_map next i = q (suc i)
   holds_map (connective true) i = either_map R (p i) (q i)
   holds_map (connective false) i = λ x. (p i x.0, q i x.1)
-  holds_map (previous w) zero = λ x. x
-  holds_map (previous w) (suc i) = q i
-  holds_map (past f w) i = past_map R _ _ _ _ w (λ j. keep_map f (p j) (q j)) (λ j. goal_map f (p j) (q j)) i
   holds_map (temporal f true) i = weak_map R R (into_itself R) i _ _ _ _ (λ j l. keep_map f (p j) (q j)) (λ j l. goal_map f (p j) (q j))
   holds_map (temporal f false) i = until_map R R (into_itself R) i _ _ _ _ (λ j l. keep_map f (p j) (q j)) (λ j l. goal_map f (p j) (q j))
 
@@ -126,9 +111,6 @@ module _ (R : Reading) (P Q : ℕ → Type 0) (sp : (j : ℕ) → Stable R (P j)
   holds_stable next i = sq (suc i)
   holds_stable (connective true) i = λ m. R.bind m (λ x. x)
   holds_stable (connective false) i = λ m. (sp i (map R (λ x. x.0) m), sq i (map R (λ x. x.1) m))
-  holds_stable (previous w) zero = stable_on R w
-  holds_stable (previous w) (suc i) = sq i
-  holds_stable (past f w) i = past_stable R (Keeps f P Q) (Goals f P Q) w i
   holds_stable (temporal f true) i = λ m. R.bind m (λ x. x)
   holds_stable (temporal f false) i = λ m. R.bind m (λ x. x)
 

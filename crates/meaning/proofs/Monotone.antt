@@ -1,13 +1,13 @@
 -- Both meanings are monotone in the operands, `not` apart, and in the reading: where operands and signals agree, so do the
 -- meanings (means-iff, strong-means-iff, and means-same, strong-means-same on one trace). Assumes nothing.
-use Prim.Native.Nat.{ℕ, suc, ◌+◌, ◌-◌, ◌≤◌, ◌<◌}
+use Prim.Native.Nat.{ℕ, suc, ◌+◌, ◌≤◌, ◌<◌}
 use mathlib.Core.Path.{◌≡◌, refl, subst, sym}
 use mathlib.Core.Logic.{◌↔◌}
 use native.Mathlib.Omega.{arith}
 use Rattle.tables.specs.declared.row.UnaryKind.{UnaryKind}
-use Rattle.tables.specs.declared.row.UnaryKind.TheVariants.{Not, Next, Always, Ever, Before, Wbefore, Once, Sofar}
+use Rattle.tables.specs.declared.row.UnaryKind.TheVariants.{Not, Next, Always, Ever}
 use Rattle.tables.specs.declared.row.BinaryKind.{BinaryKind}
-use Rattle.tables.specs.declared.row.BinaryKind.TheVariants.{And, Or, Weak, Until, Release, Srelease, Since, Trigger}
+use Rattle.tables.specs.declared.row.BinaryKind.TheVariants.{And, Or, Weak, Until, Release, Srelease}
 use Rattle.tables.specs.declared.row.Row.{Row}
 use Rattle.tables.specs.declared.row.Row.TheVariants.{Constant, Signal, Unary, Binary}
 use Rattle.meaning.specs.Reading.{Reading}
@@ -30,10 +30,6 @@ module _ (R S : Reading) (into : Into R S) (i : ℕ) (a a' : ℕ → Type 0) whe
   unary_map Next p o = p (suc i) (omega arith)
   unary_map Always p o = λ h j l. p j l (h j l)
   unary_map Ever p o = λ x. into _ (some_map R (λ j y. (y.0, p j y.0 y.1)) x)
-  unary_map Before p o = λ x. (x.0, p (i - 1) (omega arith) x.1)
-  unary_map Wbefore p o = λ x. into _ (either_map R (λ e. e) (p (i - 1) (omega arith)) x)
-  unary_map Once p o = λ x. into _ (some_map R (λ j y. (y.0, p j y.0 y.1)) x)
-  unary_map Sofar p o = λ h j l. p j l (h j l)
 
 module _ (R S : Reading) (into : Into R S) (i : ℕ) (a b a' b' : ℕ → Type 0) where
   module _ (p : (j : ℕ) → i ≤ j → a j → a' j) (q : (j : ℕ) → i ≤ j → b j → b' j) where
@@ -58,8 +54,6 @@ module _ (R S : Reading) (into : Into R S) (i : ℕ) (a b a' b' : ℕ → Type 0
   binary_map Until p q = until_map p q
   binary_map Release p q = release_map p q
   binary_map Srelease p q = srelease_map p q
-  binary_map Since p q = λ m. into _ (some_map R (λ j x. (x.0, q j x.0 x.1, λ k l h. p k h (x.2 k l h))) m)
-  binary_map Trigger p q = λ f j l. into _ (either_map R (q j l) (λ m. into _ (some_map R (λ k x. (x.0, x.1, p k x.1 x.2)) m)) (f j l))
 
 -- where they agree, `not` included
 module _ (R S : Reading) (into : Into R S) (back : Into S R) (i : ℕ) (a a' : ℕ → Type 0) where
@@ -72,10 +66,6 @@ module _ (R S : Reading) (into : Into R S) (back : Into S R) (i : ℕ) (a a' : �
   unary_iff Next e = unary_both Next refl e
   unary_iff Always e = unary_both Always refl e
   unary_iff Ever e = unary_both Ever refl e
-  unary_iff Before e = unary_both Before refl e
-  unary_iff Wbefore e = unary_both Wbefore refl e
-  unary_iff Once e = unary_both Once refl e
-  unary_iff Sofar e = unary_both Sofar refl e
 
 -- ---- rows
 
@@ -122,10 +112,6 @@ module _ (R : Reading) (n d : ℕ) (n≤d : n ≤ d) (i : ℕ) (i<d : i < d) whe
   strong_unary_map a a' p Next = λ x. (x.0, p (suc i) (omega arith) x.1)
   strong_unary_map a a' p Always = λ x. x
   strong_unary_map a a' p Ever = some_map R (λ j x. (x.0, x.1, p j (omega arith) x.2))
-  strong_unary_map a a' p Before = λ x. (x.0, p (i - 1) (omega arith) x.1)
-  strong_unary_map a a' p Wbefore = either_map R (λ e. e) (p (i - 1) (omega arith))
-  strong_unary_map a a' p Once = some_map R (λ j x. (x.0, p j (omega arith) x.1))
-  strong_unary_map a a' p Sofar = λ h j l. p j (omega arith) (h j l)
 
   module _ (a b a' b' : ℕ → Type 0) (p : Grows a a') (q : Grows b b') where
     strong_until : StrongUntil R n a b i → StrongUntil R n a' b' i
@@ -141,8 +127,6 @@ module _ (R : Reading) (n d : ℕ) (n≤d : n ≤ d) (i : ℕ) (i<d : i < d) whe
     strong_binary_map Until = strong_until
     strong_binary_map Release = strong_srelease
     strong_binary_map Srelease = strong_srelease
-    strong_binary_map Since = some_map R (λ j x. (x.0, q j (omega arith) x.1, λ k l h. p k (omega arith) (x.2 k l h)))
-    strong_binary_map Trigger = λ f j l. either_map R (q j (omega arith)) (some_map R (λ k x. (x.0, x.1, p k (omega arith) x.2))) (f j l)
 
 module _ (R : Reading) (n d : ℕ) (n≤d : n ≤ d) (w w' : InfiniteTrace) (u v : ℕ → ℕ → Type 0) (i : ℕ) (i<d : i < d) where
   pub strong_means_map :

@@ -1,7 +1,7 @@
 -- How many rows that look back are nested below a row is what its operands have and its own delay (nested_is): the depth to which the
--- definition reads is enough. None are nested exactly where no row looks back (nesting-none, none-looks-back). Assumes nothing.
+-- definition reads is enough. No kind looks back yet, so none are nested (nested-none, nesting-none). Assumes nothing.
 use Prim.Native.Nat.{ℕ, zero, suc, ◌+◌, ◌≤◌, ◌<◌, max}
-use mathlib.Core.Path.{◌≡◌, refl, subst⁻¹, ap, ap₂, ◌∙◌}
+use mathlib.Core.Path.{◌≡◌, refl, subst⁻¹, ap, ap₂}
 use mathlib.Core.Logic.{◌⊎◌, inl, inr}
 use native.Mathlib.Nat.{le_trans, le-max_left, le-max_right}
 use native.Mathlib.Omega.{arith}
@@ -10,9 +10,9 @@ use Rattle.tables.specs.declared.row.Row.TheVariants.{Constant, Signal, Unary, B
 use Rattle.tables.specs.declared.row.NormalForm.{NormalForm}
 use Rattle.meaning.specs.Satisfaction.{Table, table_of}
 use Rattle.meaning.specs.Rows.{Each, Ordered}
-use Rattle.meaning.specs.Pattern.{pattern_of}
+use Rattle.meaning.specs.Pattern.{Pattern, Pattern.now, Pattern.next, Pattern.connective, Pattern.temporal, pattern_of}
 use Rattle.meaning.specs.Nesting.{delay, most_below, nested_within, nested, most_nested, nesting}
-use Rattle.meaning.proofs.Readings.{lt_or_le, row_induction}
+use Rattle.meaning.proofs.Readings.{lt_or_le}
 use Rattle.meaning.proofs.Rows.{each_map}
 
 -- no operand has more than the most of them
@@ -56,36 +56,33 @@ nested_most t (suc m) k h = by (lt_or_le k m) (nested_most t m k)
         let e : k ≡ m = omega arith in
         subst⁻¹ (λ x. nested t x ≤ max (most_nested t m) (nested t m)) e (le-max_right (most_nested t m) (nested t m))
 
--- ---- where no row looks back
+-- ---- no kind looks back yet
 
-module _ (t : Table) (n : ℕ) (ordered : Ordered n t) (ahead : (k : ℕ) → k < n → delay (pattern_of (t k)) ≡ 0) where
-  most_below_none : (below : ℕ → ℕ) (r : Row) → Each (λ a. below a ≡ 0) r → most_below below r ≡ 0
-  most_below_none below (Constant c) e = refl
-  most_below_none below (Signal c s) e = refl
-  most_below_none below (Unary c a) e = e
-  most_below_none below (Binary c a b) e = ap₂ max e.0 e.1
+pub delay_none : (p : Pattern) → delay p ≡ 0
+delay_none now = refl
+delay_none next = refl
+delay_none (connective f) = refl
+delay_none (temporal f w) = refl
 
-  pub nested_none : (k : ℕ) → k < n → nested t k ≡ 0
-  nested_none = row_induction (λ k. k < n → nested t k ≡ 0) (λ k ih h. nested_is t n ordered k h
-      ∙ ap₂ ◌+◌ (most_below_none (nested t) (t k) (each_map _ _ (λ a l. ih a l (omega arith)) (t k) (ordered k h))) (ahead k h))
+most_below_none : (below : ℕ → ℕ) → ((a : ℕ) → below a ≡ 0) → (r : Row) → most_below below r ≡ 0
+most_below_none below e (Constant c) = refl
+most_below_none below e (Signal c s) = refl
+most_below_none below e (Unary c a) = e a
+most_below_none below e (Binary c a b) = ap₂ max (e a) (e b)
 
-  most_nested_none : (m : ℕ) → m ≤ n → most_nested t m ≡ 0
-  unfolding most_nested
-  most_nested_none zero h = refl
-  most_nested_none (suc m) h = ap₂ max (most_nested_none m (omega arith)) (nested_none m (omega arith))
+within_none : (t : Table) (d k : ℕ) → nested_within t d k ≡ 0
+unfolding nested_within
+within_none t zero k = refl
+within_none t (suc d) k = ap₂ ◌+◌ (most_below_none (nested_within t d) (within_none t d) (t k)) (delay_none (pattern_of (t k)))
 
--- none are nested in a normal form whose rows all look ahead
-pub nesting_none :
-    (g : NormalForm) → Ordered (suc g.rows) (table_of g.places)
-    → ((k : ℕ) → k < suc g.rows → delay (pattern_of (table_of g.places k)) ≡ 0) → nesting g ≡ 0
-nesting_none g ordered ahead = most_nested_none (table_of g.places) (suc g.rows) ordered ahead (suc g.rows) (omega arith)
+pub nested_none : (t : Table) (k : ℕ) → nested t k ≡ 0
+unfolding nested
+nested_none t k = within_none t (suc k) k
 
--- where none are nested, no row looks back
-pub none_looks_back :
-    (g : NormalForm) → Ordered (suc g.rows) (table_of g.places) → nesting g ≡ 0 → (k : ℕ) → k < suc g.rows
-    → delay (pattern_of (table_of g.places k)) ≡ 0
-none_looks_back g ordered none k h =
-    let t = table_of g.places in
-    let is = nested_is t (suc g.rows) ordered k h in
-    let most = nested_most t (suc g.rows) k h in
-    omega (arith, is, most, none)
+most_nested_none : (t : Table) (m : ℕ) → most_nested t m ≡ 0
+unfolding most_nested
+most_nested_none t zero = refl
+most_nested_none t (suc m) = ap₂ max (most_nested_none t m) (nested_none t m)
+
+pub nesting_none : (g : NormalForm) → nesting g ≡ 0
+nesting_none g = most_nested_none (table_of g.places) (suc g.rows)

@@ -1,15 +1,14 @@
 -- What a pattern (specs/Pattern) says of its operands, and a row by its pattern. Assumes nothing.
-use Prim.Native.Nat.{ℕ, zero, suc}
+use Prim.Native.Nat.{ℕ, suc}
 use mathlib.Core.Path.{◌≡◌, subst⁻¹}
 use mathlib.Core.Bool.{Bool, true, false, not}
 use Rattle.tables.specs.declared.row.Row.{Row}
 use Rattle.tables.specs.declared.row.Row.TheVariants.{Constant, Signal, Unary, Binary}
 use Rattle.meaning.specs.Reading.{Reading, Either}
 use Rattle.meaning.specs.Operator as operator
-use Rattle.meaning.specs.Approximant.{earlier}
 use Rattle.meaning.specs.Trace.{InfiniteTrace}
 use Rattle.meaning.specs.Rows.{Each, positive, Positive}
-use Rattle.meaning.specs.Pattern.{Pattern, Pattern.now, Pattern.next, Pattern.connective, Pattern.previous, Pattern.temporal, Pattern.past, pattern_of}
+use Rattle.meaning.specs.Pattern.{Pattern, Pattern.now, Pattern.next, Pattern.connective, Pattern.temporal, pattern_of}
 use Rattle.meaning.specs.Pattern.{Operand, Operand.constant, Operand.signal, Operand.row, constant_bit, signal_sign, unary_left, left, right}
 use Rattle.meaning.proofs.Readings.{On}
 
@@ -18,9 +17,7 @@ abbrev pub dual_pattern : Pattern → Pattern
 dual_pattern now = now
 dual_pattern next = next
 dual_pattern (connective f) = connective (not f)
-dual_pattern (previous w) = previous (not w)
 dual_pattern (temporal f w) = temporal (not f) (not w)
-dual_pattern (past f w) = past (not f) (not w)
 
 -- ---- what a pattern says of its operands
 
@@ -48,20 +45,12 @@ module _ (R : Reading) where
   Temporal true K G i = operator.Weak R K G i
   Temporal false K G i = operator.Until R K G i
 
-  -- since, or weak since where w is true, by its expansion: the goal, or keep and the same one cycle earlier
-  module _ (K G : ℕ → Type 0) (w : Bool) where
-    abbrev pub Past : ℕ → Type 0
-    Past zero = Either R (G 0) (K 0 × On w)
-    Past (suc i) = Either R (G (suc i)) (K (suc i) × Past i)
-
   module _ (P Q : ℕ → Type 0) where
     abbrev pub Holds : Pattern → ℕ → Type 0
     Holds now i = Q i
     Holds next i = Q (suc i)
     Holds (connective f) i = Connective f (P i) (Q i)
-    Holds (previous w) i = earlier (On w) Q i
     Holds (temporal f w) i = Temporal w (Keeps f P Q) (Goals f P Q) i
-    Holds (past f w) i = Past (Keeps f P Q) (Goals f P Q) w i
 
 -- what holds of constants, signals and each operand's row, under either sign, holds of both operands
 pub both_operands :

@@ -1,7 +1,6 @@
 -- What is computed for a row from the bits of its operands (rowBit), and that it is what the pattern says where the operands' bits are
--- their truth, in any reading. Until and weak until are computed to a depth (Streams), since and weak since from the
--- first cycle on (Accumulated). Assumes nothing.
-use Prim.Native.Nat.{ℕ, zero, suc, ◌+◌, ◌*◌, ◌-◌, ◌≤◌, ◌<◌}
+-- their truth, in any reading. Until and weak until are computed to a depth (Streams). Assumes nothing.
+use Prim.Native.Nat.{ℕ, suc, ◌+◌, ◌*◌, ◌-◌, ◌≤◌, ◌<◌}
 use mathlib.Core.Path.{◌≡◌, refl, sym, ap, ap₂, ◌∙◌}
 use mathlib.Core.Logic.{◌↔◌, ◌⊎◌, inl, inr}
 use mathlib.Core.Bool.{Bool, true, false, ◌&&◌, ◌||◌, true≢false}
@@ -10,15 +9,14 @@ use Rattle.tables.specs.declared.row.Row.{Row}
 use Rattle.meaning.specs.Reading.{Reading, Either}
 use Rattle.meaning.specs.Operator.{Until, Always}
 use Rattle.meaning.specs.Trace.{InfiniteTrace}
-use Rattle.meaning.specs.Pattern.{Pattern, Pattern.now, Pattern.next, Pattern.connective, Pattern.previous, Pattern.temporal, Pattern.past, left, right, pattern_of}
+use Rattle.meaning.specs.Pattern.{Pattern, Pattern.now, Pattern.next, Pattern.connective, Pattern.temporal, left, right, pattern_of}
 use Rattle.meaning.specs.Pattern.{keep_bit, goal_bit, connective_bit, keep_bits, goal_bits, signed_bit, operand_bits}
 use Rattle.meaning.specs.Nesting.{delay}
-use Rattle.meaning.specs.Approximant.{approximant, accumulated, earlier}
-use Rattle.meaning.proofs.Readings.{iff_refl, On, on_and_off, on_from}
+use Rattle.meaning.specs.Approximant.{approximant}
+use Rattle.meaning.proofs.Readings.{On, on_and_off, on_from}
 use Rattle.meaning.proofs.Periodic.{Periodic}
 use Rattle.meaning.proofs.Streams.{approximant_is, approximant_periodic, Reached, KeptForever}
-use Rattle.meaning.proofs.Accumulated.{accumulated_periodic, earlier_periodic}
-use Rattle.meaning.proofs.Pattern.{Keep, Goal, Keeps, Goals, Connective, Temporal, Past, Holds, Signed}
+use Rattle.meaning.proofs.Pattern.{Keep, Goal, Keeps, Goals, Connective, Temporal, Holds, Signed}
 
 -- ---- the bits
 
@@ -28,8 +26,6 @@ module _ (depth : ℕ → ℕ) (p q : ℕ → Bool) where
   pattern_bit now i = q i
   pattern_bit next i = q (suc i)
   pattern_bit (connective f) i = connective_bit f (p i) (q i)
-  pattern_bit (previous w) i = earlier w q i
-  pattern_bit (past f w) i = accumulated (keep_bits f p q) (goal_bits f p q) w i
   pattern_bit (temporal f w) i = approximant (keep_bits f p q) (goal_bits f p q) w (depth i) i
 
 abbrev pub row_bit : InfiniteTrace → (ℕ → ℕ) → (ℕ → ℕ → Bool) → Row → ℕ → Bool
@@ -98,20 +94,11 @@ module _ (R : Reading) where
         into false (inl f) = met f
         into false (inr x) = on_and_off x.0 refl
 
-  module _ (K G : ℕ → Type 0) (k g : ℕ → Bool) (ik : (j : ℕ) → K j ↔ On (k j)) (ig : (j : ℕ) → G j ↔ On (g j)) (w : Bool) where
-    past_iff : (i : ℕ) → Past R K G w i ↔ On (accumulated k g w i)
-    unfolding accumulated
-    past_iff zero = or_iff (g 0) (k 0 && w) (ig 0) (and_iff (k 0) w (ik 0) iff_refl)
-    past_iff (suc i) = or_iff (g (suc i)) (k (suc i) && accumulated k g w i) (ig (suc i)) (and_iff (k (suc i)) (accumulated k g w i) (ik (suc i)) (past_iff i))
-
 -- ---- where the operands' bits are periodic
 
 module _ (N b : ℕ) (N>0 : 0 < N) (depth : ℕ → ℕ) (enough : (i : ℕ) → (b - i) + N ≤ depth i) (p q : ℕ → Bool) (pp : Periodic N b p) (qp : Periodic N b q) where
   at_once : (x : ℕ → Bool) → Periodic N b x → Periodic N (b + 0 * N) x
   at_once x xp i h = xp i (omega arith)
-
-  one_later : (x : ℕ → Bool) → Periodic N (b + N) x → Periodic N (b + 1 * N) x
-  one_later x xp i h = xp i (omega arith)
 
   -- the row's own bits are, as many rounds later as it delays
   pub pattern_bit_periodic : (x : Pattern) → Periodic N (b + delay x * N) (pattern_bit depth p q x)
@@ -119,10 +106,6 @@ module _ (N b : ℕ) (N>0 : 0 < N) (depth : ℕ → ℕ) (enough : (i : ℕ) →
   pattern_bit_periodic next = at_once (λ i. q (suc i))
       (λ i h. let e : suc (i + N) ≡ suc i + N = omega arith in ap q e ∙ qp (suc i) (omega arith))
   pattern_bit_periodic (connective f) = at_once (λ i. connective_bit f (p i) (q i)) (λ i h. ap₂ (connective_bit f) (pp i h) (qp i h))
-  pattern_bit_periodic (previous w) = one_later (earlier w q) (earlier_periodic N b N>0 w q qp)
-  pattern_bit_periodic (past f w) = one_later (accumulated (keep_bits f p q) (goal_bits f p q) w)
-      (accumulated_periodic N b (keep_bits f p q) (goal_bits f p q)
-      (λ i h. ap₂ (keep_bit f) (pp i h) (qp i h)) (λ i h. ap₂ (goal_bit f) (pp i h) (qp i h)) w)
   pattern_bit_periodic (temporal f w) = at_once (λ i. approximant (keep_bits f p q) (goal_bits f p q) w (depth i) i)
       (approximant_periodic (keep_bits f p q) (goal_bits f p q) N b N>0
       (λ i h. ap₂ (keep_bit f) (pp i h) (qp i h)) (λ i h. ap₂ (goal_bit f) (pp i h) (qp i h)) w depth enough)
@@ -132,10 +115,6 @@ module _ (N b : ℕ) (N>0 : 0 < N) (depth : ℕ → ℕ) (enough : (i : ℕ) →
     pattern_bit_is now i = isQ i
     pattern_bit_is next i = isQ (suc i)
     pattern_bit_is (connective f) i = connective_iff R f (p i) (q i) (isP i) (isQ i)
-    pattern_bit_is (previous w) zero = iff_refl
-    pattern_bit_is (previous w) (suc i) = isQ i
-    pattern_bit_is (past f w) i = past_iff R (Keeps f P Q) (Goals f P Q) (keep_bits f p q) (goal_bits f p q)
-        (λ j. keep_iff f (p j) (q j) (isP j) (isQ j)) (λ j. goal_iff f (p j) (q j) (isP j) (isQ j)) w i
     pattern_bit_is (temporal f w) i = temporal_iff R (Keeps f P Q) (Goals f P Q) (keep_bits f p q) (goal_bits f p q)
         (λ j. keep_iff f (p j) (q j) (isP j) (isQ j)) (λ j. goal_iff f (p j) (q j) (isP j) (isQ j)) N b N>0
         (λ j h. ap₂ (keep_bit f) (pp j h) (qp j h)) (λ j h. ap₂ (goal_bit f) (pp j h) (qp j h)) i (depth i) (enough i) w

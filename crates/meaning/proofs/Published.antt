@@ -13,9 +13,9 @@ use native.Mathlib.Omega.{arith}
 use Rattle.tables.specs.declared.row.SignalKind.{SignalKind}
 use Rattle.tables.specs.declared.row.SignalKind.TheVariants.{Sig, Nsig}
 use Rattle.tables.specs.declared.row.UnaryKind.{UnaryKind}
-use Rattle.tables.specs.declared.row.UnaryKind.TheVariants.{Not, Next, Always, Ever, Before, Wbefore, Once, Sofar}
+use Rattle.tables.specs.declared.row.UnaryKind.TheVariants.{Not, Next, Always, Ever}
 use Rattle.tables.specs.declared.row.BinaryKind.{BinaryKind}
-use Rattle.tables.specs.declared.row.BinaryKind.TheVariants.{And, Or, Weak, Until, Release, Srelease, Since, Trigger}
+use Rattle.tables.specs.declared.row.BinaryKind.TheVariants.{And, Or, Weak, Until, Release, Srelease}
 use Rattle.tables.specs.declared.row.Row.{Row}
 use Rattle.tables.specs.declared.row.Row.TheVariants.{Constant, Signal, Unary, Binary}
 use Rattle.tables.specs.declared.row.Formula.{Formula}
@@ -59,31 +59,13 @@ module _ (a : ℕ → Type 0) (i : ℕ) where
   pub always_published : operator.Always a i ↔ published.G a i
   always_published = iff_refl
 
-  pub before_published : operator.Before a i ↔ published.Y a i
-  before_published = iff_refl
-
-  pub sofar_published : operator.Sofar a i ↔ published.H a i
-  sofar_published = iff_refl
-
 module _ (R : Reading) (a : ℕ → Type 0) (i : ℕ) where
   pub ever_published : operator.Ever R a i ↔ published.F R a i
   ever_published = iff_refl
 
-  pub wbefore_published : operator.Wbefore R a i ↔ published.Z R a i
-  wbefore_published = iff_refl
-
-  pub once_published : operator.Once R a i ↔ published.O R a i
-  once_published = iff_refl
-
 module _ (R : Reading) (a b : ℕ → Type 0) (i : ℕ) where
   pub until_published : operator.Until R a b i ↔ published.U R a b i
   until_published = iff_refl
-
-  pub since_published : operator.Since R a b i ↔ published.S R a b i
-  since_published = iff_refl
-
-  pub trigger_published : operator.Trigger R a b i ↔ published.T R a b i
-  trigger_published = iff_refl
 
   -- the two that figure 1 has not: weak until is (a U b) ∨ G a, strong release is b U (a ∧ b)
   pub weak_published : operator.Weak R a b i ↔ Either R (published.U R a b i) (published.G a i)
@@ -155,10 +137,6 @@ module _ (R : Reading) (a : ℕ → Type 0) (i : ℕ) where
   unary_published Next = next_published a i
   unary_published Always = always_published a i
   unary_published Ever = ever_published R a i
-  unary_published Before = before_published a i
-  unary_published Wbefore = wbefore_published R a i
-  unary_published Once = once_published R a i
-  unary_published Sofar = sofar_published a i
 
 module _ (R : Reading) (a b : ℕ → Type 0) (i : ℕ) (stable : (j : ℕ) → Stable R (b j)) where
   binary_published : (c : BinaryKind) → Settled (BinaryMeans R c a b i) → BinaryMeans R c a b i ↔ published.PublishedBinary R c a b i
@@ -168,8 +146,6 @@ module _ (R : Reading) (a b : ℕ → Type 0) (i : ℕ) (stable : (j : ℕ) → 
   binary_published Until s = until_published R a b i
   binary_published Release s = (release_implies R a b i, λ p. s (release_implied R a b i stable p))
   binary_published Srelease s = srelease_published R a b i
-  binary_published Since s = since_published R a b i
-  binary_published Trigger s = trigger_published R a b i
 
 module _ (R : Reading) (w : InfiniteTrace) (v : ℕ → ℕ → Type 0) (i : ℕ) where
   pub kind_published :

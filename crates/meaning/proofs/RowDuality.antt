@@ -9,9 +9,9 @@ use Rattle.tables.specs.declared.row.ConstantKind.TheVariants.{True, False}
 use Rattle.tables.specs.declared.row.SignalKind.{SignalKind}
 use Rattle.tables.specs.declared.row.SignalKind.TheVariants.{Sig, Nsig}
 use Rattle.tables.specs.declared.row.UnaryKind.{UnaryKind}
-use Rattle.tables.specs.declared.row.UnaryKind.TheVariants.{Not, Next, Always, Ever, Before, Wbefore, Once, Sofar}
+use Rattle.tables.specs.declared.row.UnaryKind.TheVariants.{Not, Next, Always, Ever}
 use Rattle.tables.specs.declared.row.BinaryKind.{BinaryKind}
-use Rattle.tables.specs.declared.row.BinaryKind.TheVariants.{And, Or, Weak, Until, Release, Srelease, Since, Trigger}
+use Rattle.tables.specs.declared.row.BinaryKind.TheVariants.{And, Or, Weak, Until, Release, Srelease}
 use Rattle.tables.specs.declared.row.Row.{Row}
 use Rattle.tables.specs.declared.row.Row.TheVariants.{Constant, Signal, Unary, Binary}
 use Rattle.tables.proofs.Duals.{constant_dual, signal_dual, unary_dual, binary_dual, dual_constant, dual_signal, dual_unary, dual_binary}
@@ -27,10 +27,6 @@ positive_dual Not = refl
 positive_dual Next = refl
 positive_dual Always = refl
 positive_dual Ever = refl
-positive_dual Before = refl
-positive_dual Wbefore = refl
-positive_dual Once = refl
-positive_dual Sofar = refl
 
 pub dual_positive : (r : Row) → Positive r → Positive (dual_of r)
 dual_positive (Constant c) p = rw (dual_constant c) tt
@@ -62,20 +58,12 @@ module _ (R : Reading) (a a' : ℕ → Type 0) (i : ℕ) where
   unary_excludes Next o e = e (suc i)
   unary_excludes Always o e = duality.always_excludes R a a' e i
   unary_excludes Ever o e = duality.ever_excludes R a a' e i
-  unary_excludes Before o e = duality.before_excludes R a a' e i
-  unary_excludes Wbefore o e = duality.wbefore_excludes R a a' e i
-  unary_excludes Once o e = duality.once_excludes R a a' e i
-  unary_excludes Sofar o e = duality.sofar_excludes R a a' e i
 
   unary_else : Full R → (c : UnaryKind) → On (positive c) → duality.Cover a a' → ¬ UnaryMeans R c a i → UnaryMeans R (unary_dual c) a' i
   unary_else full Not o e = on_and_off o refl
   unary_else full Next o e = (e (suc i)).0
   unary_else full Always o e = duality.always_else R full a a' e i
   unary_else full Ever o e = duality.ever_else R full a a' e i
-  unary_else full Before o e = duality.before_else R full a a' e i
-  unary_else full Wbefore o e = duality.wbefore_else R full a a' e i
-  unary_else full Once o e = duality.once_else R full a a' e i
-  unary_else full Sofar o e = duality.sofar_else R full a a' e i
 
 module _ (R : Reading) (a b a' b' : ℕ → Type 0) (i : ℕ) where
   binary_excludes : (c : BinaryKind) → duality.Exclude a a' → duality.Exclude b b' → BinaryMeans R (binary_dual c) a' b' i → ¬ BinaryMeans R c a b i
@@ -85,8 +73,6 @@ module _ (R : Reading) (a b a' b' : ℕ → Type 0) (i : ℕ) where
   binary_excludes Until p q = duality.until_excludes R a b a' b' p q i
   binary_excludes Release p q = duality.release_excludes R a b a' b' p q i
   binary_excludes Srelease p q = duality.srelease_excludes R a b a' b' p q i
-  binary_excludes Since p q = duality.since_excludes R a b a' b' p q i
-  binary_excludes Trigger p q = duality.trigger_excludes R a b a' b' p q i
 
   binary_else : Full R → (c : BinaryKind) → duality.Cover a a' → duality.Cover b b' → ¬ BinaryMeans R c a b i → BinaryMeans R (binary_dual c) a' b' i
   binary_else full And p q = duality.and_else R full a b a' b' p q i
@@ -95,8 +81,6 @@ module _ (R : Reading) (a b a' b' : ℕ → Type 0) (i : ℕ) where
   binary_else full Until p q = duality.until_else R full a b a' b' p q i
   binary_else full Release p q = duality.release_else R full a b a' b' p q i
   binary_else full Srelease p q = duality.srelease_else R full a b a' b' p q i
-  binary_else full Since p q = duality.since_else R full a b a' b' p q i
-  binary_else full Trigger p q = duality.trigger_else R full a b a' b' p q i
 
 -- ---- rows: u at the dual's operands, v at the row's
 

@@ -9,9 +9,9 @@ use native.Mathlib.Omega.{arith}
 use lib.Dec.{ltb}
 use borrow.Author.Tests.{lt-ltb, ltb-true}
 use Rattle.tables.specs.declared.row.UnaryKind.{UnaryKind}
-use Rattle.tables.specs.declared.row.UnaryKind.TheVariants.{Not, Next, Always, Ever, Before, Wbefore, Once, Sofar}
+use Rattle.tables.specs.declared.row.UnaryKind.TheVariants.{Not, Next, Always, Ever}
 use Rattle.tables.specs.declared.row.BinaryKind.{BinaryKind}
-use Rattle.tables.specs.declared.row.BinaryKind.TheVariants.{And, Or, Weak, Until, Release, Srelease, Since, Trigger}
+use Rattle.tables.specs.declared.row.BinaryKind.TheVariants.{And, Or, Weak, Until, Release, Srelease}
 use Rattle.tables.specs.declared.row.Row.{Row}
 use Rattle.tables.specs.declared.row.Row.TheVariants.{Constant, Signal, Unary, Binary}
 use Rattle.tables.specs.declared.trace.Trace.{Trace}
@@ -54,10 +54,6 @@ module _ (R : Reading) (n i : ℕ) (i<n : i < n) where
   unary_inside P Next o = iff_refl
   unary_inside P Always o = (λ x. absurd x, not_always P)
   unary_inside P Ever o = (some_map R (λ j x. (x.0, (x.1, x.2))), some_map R (λ j x. (x.0, (x.1).0, (x.1).1)))
-  unary_inside P Before o = (λ x. (x.0, (omega arith, x.1)), λ x. (x.0, (x.1).1))
-  unary_inside P Wbefore o = (either_map R (λ e. e) (λ x. (omega arith, x)), either_map R (λ e. e) (λ x. x.1))
-  unary_inside P Once o = (some_map R (λ j x. (x.0, (omega arith, x.1))), some_map R (λ j x. (x.0, (x.1).1)))
-  unary_inside P Sofar o = (λ h j l. (omega arith, h j l), λ h j l. (h j l).1)
 
   module _ (P Q : ℕ → Type 0) where
     until_inside : StrongUntil R n P Q i ↔ operator.Until R (Inside n P) (Inside n Q) i
@@ -79,14 +75,6 @@ module _ (R : Reading) (n i : ℕ) (i<n : i < n) where
     binary_inside Until = until_inside
     binary_inside Release = (λ m. R.unit (inl (srelease_inside.0 m)), λ m. srelease_inside.1 (R.bind (only Q m) (λ u. u)))
     binary_inside Srelease = srelease_inside
-    binary_inside Since = (
-      some_map R (λ j x. (x.0, (omega arith, x.1), λ k a b. (omega arith, x.2 k a b))),
-      some_map R (λ j x. (x.0, (x.1).1, λ k a b. (x.2 k a b).1)),
-    )
-    binary_inside Trigger = (
-      λ h j l. either_map R (λ x. (omega arith, x)) (some_map R (λ k y. (y.0, y.1, (omega arith, y.2)))) (h j l),
-      λ h j l. either_map R (λ x. x.1) (some_map R (λ k y. (y.0, y.1, (y.2).1))) (h j l),
-    )
 
   pub strong_means_inside :
       (w w' : InfiniteTrace) (v : ℕ → ℕ → Type 0) (r : Row) → Positive r → EachSignal (λ s. w i s ≡ w' i s) r

@@ -1,14 +1,12 @@
--- Informative prefixes (source document 000, section X, definition 1, of Kupferman and Vardi), extended to all operators of 01 and to
--- those that look back, of which the document has none: each by its expansion over one cycle earlier (docs/DECISIONS.md).
+-- Informative prefixes (source document 000, section X, definition 1, of Kupferman and Vardi), extended to all operators of 01.
 -- The document counts cycles from 1; here they count from 0, so its L(1) and L(n+1) are L at 0 and at n. Assumes nothing.
 use Rattle.std.specs.Prelude.{ℕ, suc, ◌≤◌, ◌<◌, ◌≡◌, ◌⊎◌, Bool, true, false}
 use Rattle.tables.specs.declared.row.UnaryKind.{UnaryKind}
-use Rattle.tables.specs.declared.row.UnaryKind.TheVariants.{Not, Next, Always, Ever, Before, Wbefore, Once, Sofar}
+use Rattle.tables.specs.declared.row.UnaryKind.TheVariants.{Not, Next, Always, Ever}
 use Rattle.tables.specs.declared.row.BinaryKind.{BinaryKind}
-use Rattle.tables.specs.declared.row.BinaryKind.TheVariants.{And, Or, Weak, Until, Release, Srelease, Since, Trigger}
+use Rattle.tables.specs.declared.row.BinaryKind.TheVariants.{And, Or, Weak, Until, Release, Srelease}
 use Rattle.tables.specs.declared.row.Row.{Row}
 use Rattle.tables.specs.declared.row.Row.TheVariants.{Constant, Signal, Unary, Binary}
-use Rattle.meaning.specs.Approximant.{earlier}
 use Rattle.meaning.specs.Trace.{InfiniteTrace}
 use Rattle.meaning.specs.Satisfaction.{Table, ConstantMeans, SignalMeans}
 
@@ -22,10 +20,6 @@ Member L i k = L i k ≡ true
 
 -- what a row with operands asks of L where its number k is in L(i), by its kind
 module _ (L : Labels) where
-  -- row k is in L(i-1); before the first cycle, none of them or all
-  abbrev pub MemberBefore : Type 0 → ℕ → ℕ → Type 0
-  MemberBefore first k i = earlier first (λ j. Member L j k) i
-
   abbrev pub UnaryCondition : UnaryKind → ℕ → ℕ → ℕ → Type 0
   -- no normal form has a `not` row
   UnaryCondition Not a k i = ⊥
@@ -33,10 +27,6 @@ module _ (L : Labels) where
   UnaryCondition Next a k i = Member L (suc i) a
   UnaryCondition Always a k i = Member L i a × Member L (suc i) k
   UnaryCondition Ever a k i = Member L i a ⊎ Member L (suc i) k
-  UnaryCondition Before a k i = MemberBefore ⊥ a i
-  UnaryCondition Wbefore a k i = MemberBefore (Unit {0}) a i
-  UnaryCondition Once a k i = Member L i a ⊎ MemberBefore ⊥ k i
-  UnaryCondition Sofar a k i = Member L i a × MemberBefore (Unit {0}) k i
 
   abbrev pub BinaryCondition : BinaryKind → ℕ → ℕ → ℕ → ℕ → Type 0
   -- "5) If a ∧ b ∈ L(i) then a ∈ L(i) and b ∈ L(i)"
@@ -48,8 +38,6 @@ module _ (L : Labels) where
   BinaryCondition Weak a b k i = Member L i b ⊎ (Member L i a × Member L (suc i) k)
   BinaryCondition Release a b k i = Member L i b × (Member L i a ⊎ Member L (suc i) k)
   BinaryCondition Srelease a b k i = Member L i b × (Member L i a ⊎ Member L (suc i) k)
-  BinaryCondition Since a b k i = Member L i b ⊎ (Member L i a × MemberBefore ⊥ k i)
-  BinaryCondition Trigger a b k i = Member L i b × (Member L i a ⊎ MemberBefore (Unit {0}) k i)
 
 module _ (w : InfiniteTrace) (L : Labels) where
   abbrev pub Condition : Row → ℕ → ℕ → Type 0

@@ -1,19 +1,17 @@
--- How many rows that look back are nested below a row (02, request 6). Assumes nothing.
+-- How many rows that look back are nested below a row (02, request 6). No kind looks back yet. Assumes nothing.
 use Rattle.std.specs.Prelude.{ℕ, zero, suc, ◌+◌, max}
 use Rattle.tables.specs.declared.row.Row.{Row}
 use Rattle.tables.specs.declared.row.Row.TheVariants.{Constant, Signal, Unary, Binary}
 use Rattle.tables.specs.declared.row.NormalForm.{NormalForm}
 use Rattle.meaning.specs.Satisfaction.{Table, table_of}
-use Rattle.meaning.specs.Pattern.{Pattern, Pattern.now, Pattern.next, Pattern.connective, Pattern.previous, Pattern.temporal, Pattern.past, pattern_of}
+use Rattle.meaning.specs.Pattern.{Pattern, Pattern.now, Pattern.next, Pattern.connective, Pattern.temporal, pattern_of}
 
--- by how many rounds of a loop a row's truth begins to repeat later than that of its operands: a row that looks back by one
+-- by how many rounds of a loop a row's truth begins to repeat later than that of its operands: a row that does not look back by none
 abbrev pub delay : Pattern → ℕ
 delay now = 0
 delay next = 0
 delay (connective f) = 0
-delay (previous w) = 1
 delay (temporal f w) = 0
-delay (past f w) = 1
 
 -- the most of a row's operands, where `below` is what each earlier row has
 abbrev pub most_below : (ℕ → ℕ) → Row → ℕ

@@ -1,7 +1,6 @@
 -- The temporal operators in 01's words ("Meaning"): "On an endless take at cycle i, j meaning i or later". An operand is given by the
--- cycles at which it is true. That they are those of source document 003, figure 1 (Published): proofs/Published. Those that look back
--- (02, request 6: "with the meanings of Y, Z, O, H, S, T in source document 003, figure 1") are in the figure's words. Assumes nothing.
-use Rattle.std.specs.Prelude.{ℕ, suc, ◌-◌, ◌≤◌, ◌<◌, ◌≡◌}
+-- cycles at which it is true. That they are those of source document 003, figure 1 (Published): proofs/Published. Assumes nothing.
+use Rattle.std.specs.Prelude.{ℕ, suc, ◌≤◌, ◌<◌}
 use Rattle.meaning.specs.Reading.{Reading, Either, Some}
 
 -- "at each cycle from i up to but without j"
@@ -15,14 +14,6 @@ Through a i j = (k : ℕ) → i ≤ k → k ≤ j → a k
 -- "always a: a at every j"
 abbrev pub Always : (ℕ → Type 0) → ℕ → Type 0
 Always a i = (j : ℕ) → i ≤ j → a j
-
--- "before a (false in the first cycle)": "i > 0 and (π, i−1) ⊨ φ"
-abbrev pub Before : (ℕ → Type 0) → ℕ → Type 0
-Before a i = (0 < i) × a (i - 1)
-
--- "∀ j ≤ i. (π, j) ⊨ φ"
-abbrev pub Sofar : (ℕ → Type 0) → ℕ → Type 0
-Sofar a i = (j : ℕ) → j ≤ i → a j
 
 -- "next a: a at i+1"
 abbrev pub Next : (ℕ → Type 0) → ℕ → Type 0
@@ -48,19 +39,3 @@ module _ (R : Reading) where
   -- "release a b: srelease a b, or always b"
   abbrev pub Release : (ℕ → Type 0) → (ℕ → Type 0) → ℕ → Type 0
   Release a b i = Either R (Srelease a b i) (Always b i)
-
-  -- "wbefore a (true there)": "i = 0 or (π, i−1) ⊨ φ"
-  abbrev pub Wbefore : (ℕ → Type 0) → ℕ → Type 0
-  Wbefore a i = Either R (i ≡ 0) (a (i - 1))
-
-  -- "∃ j ≤ i. (π, j) ⊨ φ"
-  abbrev pub Once : (ℕ → Type 0) → ℕ → Type 0
-  Once a i = Some R (λ j. (j ≤ i) × a j)
-
-  -- "∃ j ≤ i. ((π, j) ⊨ ψ and ∀ k : j < k ≤ i. (π, k) ⊨ φ)"
-  abbrev pub Since : (ℕ → Type 0) → (ℕ → Type 0) → ℕ → Type 0
-  Since a b i = Some R (λ j. (j ≤ i) × b j × ((k : ℕ) → j < k → k ≤ i → a k))
-
-  -- "∀ j ≤ i. ((π, j) ⊨ ψ or ∃ k : j < k ≤ i. (π, k) ⊨ φ)"
-  abbrev pub Trigger : (ℕ → Type 0) → (ℕ → Type 0) → ℕ → Type 0
-  Trigger a b i = (j : ℕ) → j ≤ i → Either R (b j) (Some R (λ k. (j < k) × (k ≤ i) × a k))

@@ -1,28 +1,26 @@
--- The patterns by which proofs go instead of twenty kinds: each row is one of six patterns over a left and a right operand. All
--- temporal operators are until or weak until, of the operands or, for the releases, of the right one and both; those that look back are
--- since or weak since, likewise. What a pattern says, and that it is what the row means: proofs/Pattern and proofs/MeaningByPattern.
--- Contracts cite the patterns over bits. Assumes nothing.
+-- The patterns by which proofs go instead of fourteen kinds: each row is one of four patterns over a left and a right operand. All
+-- temporal operators are until or weak until, of the operands or, for the releases, of the right one and both. What a pattern says, and
+-- that it is what the row means: proofs/Pattern and proofs/MeaningByPattern. Contracts cite the patterns over bits. Assumes nothing.
 use Rattle.std.specs.Prelude.{ℕ, Bool, true, false, not, ◌&&◌, ◌||◌}
 use Rattle.tables.specs.declared.row.ConstantKind.{ConstantKind}
 use Rattle.tables.specs.declared.row.ConstantKind.TheVariants.{True, False}
 use Rattle.tables.specs.declared.row.SignalKind.{SignalKind}
 use Rattle.tables.specs.declared.row.SignalKind.TheVariants.{Sig, Nsig}
 use Rattle.tables.specs.declared.row.UnaryKind.{UnaryKind}
-use Rattle.tables.specs.declared.row.UnaryKind.TheVariants.{Not, Next, Always, Ever, Before, Wbefore, Once, Sofar}
+use Rattle.tables.specs.declared.row.UnaryKind.TheVariants.{Not, Next, Always, Ever}
 use Rattle.tables.specs.declared.row.BinaryKind.{BinaryKind}
-use Rattle.tables.specs.declared.row.BinaryKind.TheVariants.{And, Or, Weak, Until, Release, Srelease, Since, Trigger}
+use Rattle.tables.specs.declared.row.BinaryKind.TheVariants.{And, Or, Weak, Until, Release, Srelease}
 use Rattle.tables.specs.declared.row.Row.{Row}
 use Rattle.tables.specs.declared.row.Row.TheVariants.{Constant, Signal, Unary, Binary}
 use Rattle.meaning.specs.Trace.{InfiniteTrace}
 use Rattle.meaning.specs.Rows.{positive}
 
--- `now` is the right operand, `next` the same one cycle later, `previous` one cycle earlier, its Bool being what holds in the first cycle.
--- The first Bool of the others tells `or`, until, weak and since (true) from `and`, the releases and trigger (false); the second says
--- what holds where the goal is never met: weak (true) or strong (false).
+-- `now` is the right operand, `next` the same one cycle later. The first Bool of the others tells `or`, until and weak (true) from
+-- `and` and the releases (false); the second says what holds where the goal is never met: weak (true) or strong (false).
 pub data Pattern : Type 0 where
   now next : Pattern
-  connective previous : Bool → Pattern
-  temporal past : Bool → Bool → Pattern
+  connective : Bool → Pattern
+  temporal : Bool → Bool → Pattern
 
 -- ---- the patterns and operands of rows
 
@@ -31,10 +29,6 @@ unary_pattern Not = Pattern.now
 unary_pattern Next = Pattern.next
 unary_pattern Always = Pattern.temporal false true
 unary_pattern Ever = Pattern.temporal true false
-unary_pattern Before = Pattern.previous false
-unary_pattern Wbefore = Pattern.previous true
-unary_pattern Once = Pattern.past true false
-unary_pattern Sofar = Pattern.past false true
 
 abbrev pub binary_pattern : BinaryKind → Pattern
 binary_pattern And = Pattern.connective false
@@ -43,8 +37,6 @@ binary_pattern Weak = Pattern.temporal true true
 binary_pattern Until = Pattern.temporal true false
 binary_pattern Release = Pattern.temporal false true
 binary_pattern Srelease = Pattern.temporal false false
-binary_pattern Since = Pattern.past true false
-binary_pattern Trigger = Pattern.past false true
 
 abbrev pub pattern_of : Row → Pattern
 pattern_of (Constant c) = Pattern.now
@@ -65,16 +57,12 @@ abbrev pub signal_sign : SignalKind → Bool
 signal_sign Sig = true
 signal_sign Nsig = false
 
--- ever b is until of true and b, always b is release of false and b; once and sofar likewise are since and trigger
+-- ever b is until of true and b, always b is release of false and b
 abbrev pub unary_left : UnaryKind → Bool
 unary_left Not = true
 unary_left Next = true
 unary_left Always = false
 unary_left Ever = true
-unary_left Before = true
-unary_left Wbefore = true
-unary_left Once = true
-unary_left Sofar = false
 
 abbrev pub left : Row → Operand
 left (Constant c) = Operand.constant true

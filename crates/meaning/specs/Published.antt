@@ -1,13 +1,14 @@
--- THE PUBLISHED MEANING: source document 003, figure 1 ("The semantics of PLTL"), word for word and in the figure's letters. Each line of
--- the figure stands above its definition; (π, i) ⊨ φ is "φ at i". "Or" and ∃ are read as Reading says; "not", "and" and ∀ stand as they
--- are, here and in Satisfaction. That 01's words say the same: proofs/Published. Assumes nothing.
-use Rattle.std.specs.Prelude.{ℕ, zero, suc, ◌-◌, ◌≤◌, ◌<◌, ◌≡◌, Bool, true}
+-- THE PUBLISHED MEANING: source document 003, figure 1 ("The semantics of PLTL"), its Boolean and future lines word for word and in
+-- the figure's letters. Each line of the figure stands above its definition; (π, i) ⊨ φ is "φ at i". "Or" and ∃ are read as Reading
+-- says; "not", "and" and ∀ stand as they are, here and in Satisfaction. That 01's words say the same: proofs/Published. Assumes
+-- nothing.
+use Rattle.std.specs.Prelude.{ℕ, zero, suc, ◌≤◌, ◌<◌, ◌≡◌, Bool, true}
 use Rattle.tables.specs.declared.row.SignalKind.{SignalKind}
 use Rattle.tables.specs.declared.row.SignalKind.TheVariants.{Sig, Nsig}
 use Rattle.tables.specs.declared.row.UnaryKind.{UnaryKind}
-use Rattle.tables.specs.declared.row.UnaryKind.TheVariants.{Not, Next, Always, Ever, Before, Wbefore, Once, Sofar}
+use Rattle.tables.specs.declared.row.UnaryKind.TheVariants.{Not, Next, Always, Ever}
 use Rattle.tables.specs.declared.row.BinaryKind.{BinaryKind}
-use Rattle.tables.specs.declared.row.BinaryKind.TheVariants.{And, Or, Weak, Until, Release, Srelease, Since, Trigger}
+use Rattle.tables.specs.declared.row.BinaryKind.TheVariants.{And, Or, Weak, Until, Release, Srelease}
 use Rattle.tables.specs.declared.row.Row.{Row}
 use Rattle.tables.specs.declared.row.Row.TheVariants.{Constant, Signal, Unary, Binary}
 use Rattle.tables.specs.declared.row.Formula.{Formula}
@@ -23,14 +24,6 @@ X φ i = φ (suc i)
 -- (π, i) ⊨ Gφ iff ∀ j ≥ i. (π, j) ⊨ φ
 abbrev pub G : (ℕ → Type 0) → ℕ → Type 0
 G φ i = (j : ℕ) → i ≤ j → φ j
-
--- (π, i) ⊨ Yφ iff i > 0 and (π, i−1) ⊨ φ
-abbrev pub Y : (ℕ → Type 0) → ℕ → Type 0
-Y φ i = (0 < i) × φ (i - 1)
-
--- (π, i) ⊨ Hφ iff ∀ j ≤ i. (π, j) ⊨ φ
-abbrev pub H : (ℕ → Type 0) → ℕ → Type 0
-H φ i = (j : ℕ) → j ≤ i → φ j
 
 -- (π, i) ⊨ p iff p ∈ π(i); `nsig` is the figure's ¬p. `on` is p ∈ π(i).
 abbrev pub PublishedSignal : SignalKind → Bool → Type 0
@@ -50,32 +43,12 @@ module _ (reading : Reading) where
   abbrev pub R : (ℕ → Type 0) → (ℕ → Type 0) → ℕ → Type 0
   R φ ψ i = (j : ℕ) → i ≤ j → Either reading (ψ j) (Some reading (λ k. (i ≤ k) × (k < j) × φ k))
 
-  -- (π, i) ⊨ Zφ iff i = 0 or (π, i−1) ⊨ φ
-  abbrev pub Z : (ℕ → Type 0) → ℕ → Type 0
-  Z φ i = Either reading (i ≡ 0) (φ (i - 1))
-
-  -- (π, i) ⊨ Oφ iff ∃ j ≤ i. (π, j) ⊨ φ
-  abbrev pub O : (ℕ → Type 0) → ℕ → Type 0
-  O φ i = Some reading (λ j. (j ≤ i) × φ j)
-
-  -- (π, i) ⊨ φSψ iff ∃ j ≤ i. ((π, j) ⊨ ψ and ∀ k : j < k ≤ i. (π, k) ⊨ φ)
-  abbrev pub S : (ℕ → Type 0) → (ℕ → Type 0) → ℕ → Type 0
-  S φ ψ i = Some reading (λ j. (j ≤ i) × ψ j × ((k : ℕ) → j < k → k ≤ i → φ k))
-
-  -- (π, i) ⊨ φTψ iff ∀ j ≤ i. ((π, j) ⊨ ψ or ∃ k : j < k ≤ i. (π, k) ⊨ φ)
-  abbrev pub T : (ℕ → Type 0) → (ℕ → Type 0) → ℕ → Type 0
-  T φ ψ i = (j : ℕ) → j ≤ i → Either reading (ψ j) (Some reading (λ k. (j < k) × (k ≤ i) × φ k))
-
   -- (π, i) ⊨ ¬φ iff (π, i) ⊭ φ; and the operators above
   abbrev pub PublishedUnary : UnaryKind → (ℕ → Type 0) → ℕ → Type 0
   PublishedUnary Not φ i = ¬ φ i
   PublishedUnary Next φ i = X φ i
   PublishedUnary Always φ i = G φ i
   PublishedUnary Ever φ i = F φ i
-  PublishedUnary Before φ i = Y φ i
-  PublishedUnary Wbefore φ i = Z φ i
-  PublishedUnary Once φ i = O φ i
-  PublishedUnary Sofar φ i = H φ i
 
   -- (π, i) ⊨ φ ∧ ψ iff (π, i) ⊨ φ and (π, i) ⊨ ψ; (π, i) ⊨ φ ∨ ψ iff (π, i) ⊨ φ or (π, i) ⊨ ψ; and the operators above. Not in the
   -- figure: weak until, which is φUψ ∨ Gφ (document 000, figure 1: "a holds up to the cycle before b holds, or a holds forever"); and
@@ -87,8 +60,6 @@ module _ (reading : Reading) where
   PublishedBinary Until φ ψ i = U φ ψ i
   PublishedBinary Release φ ψ i = R φ ψ i
   PublishedBinary Srelease φ ψ i = U ψ (λ j. φ j × ψ j) i
-  PublishedBinary Since φ ψ i = S φ ψ i
-  PublishedBinary Trigger φ ψ i = T φ ψ i
 
   module _ (π : InfiniteTrace) where
     -- figure 1 row by row, where v says at which cycles each earlier row is true; the constants are not in the figure

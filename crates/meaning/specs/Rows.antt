@@ -1,7 +1,7 @@
 -- What is said of a row's operands and of its signal, and which tables a formula is: rows that name earlier rows. Assumes nothing.
 use Rattle.std.specs.Prelude.{ℕ, ◌<◌, ◌≡◌, Bool, true, false}
 use Rattle.tables.specs.declared.row.UnaryKind.{UnaryKind}
-use Rattle.tables.specs.declared.row.UnaryKind.TheVariants.{Not, Next, Always, Ever, Before, Wbefore, Once, Sofar}
+use Rattle.tables.specs.declared.row.UnaryKind.TheVariants.{Not, Next, Always, Ever}
 use Rattle.tables.specs.declared.row.Row.{Row}
 use Rattle.tables.specs.declared.row.Row.TheVariants.{Constant, Signal, Unary, Binary}
 use Rattle.meaning.specs.Satisfaction.{Table}
@@ -30,10 +30,6 @@ positive Not = false
 positive Next = true
 positive Always = true
 positive Ever = true
-positive Before = true
-positive Wbefore = true
-positive Once = true
-positive Sofar = true
 
 -- no `not` row, as in a normal form
 abbrev pub Positive : Row → Type 0

@@ -5,9 +5,9 @@ use Rattle.tables.specs.declared.row.ConstantKind.TheVariants.{True, False}
 use Rattle.tables.specs.declared.row.SignalKind.{SignalKind}
 use Rattle.tables.specs.declared.row.SignalKind.TheVariants.{Sig, Nsig}
 use Rattle.tables.specs.declared.row.UnaryKind.{UnaryKind}
-use Rattle.tables.specs.declared.row.UnaryKind.TheVariants.{Not, Next, Always, Ever, Before, Wbefore, Once, Sofar}
+use Rattle.tables.specs.declared.row.UnaryKind.TheVariants.{Not, Next, Always, Ever}
 use Rattle.tables.specs.declared.row.BinaryKind.{BinaryKind}
-use Rattle.tables.specs.declared.row.BinaryKind.TheVariants.{And, Or, Weak, Until, Release, Srelease, Since, Trigger}
+use Rattle.tables.specs.declared.row.BinaryKind.TheVariants.{And, Or, Weak, Until, Release, Srelease}
 use Rattle.tables.specs.declared.row.Row.{Row}
 use Rattle.tables.specs.declared.row.Row.TheVariants.{Constant, Signal, Unary, Binary}
 use Rattle.tables.specs.declared.row.RowPlace.{RowPlace}
@@ -40,10 +40,6 @@ module _ (R : Reading) where
   UnaryMeans Next a i = operator.Next a i
   UnaryMeans Always a i = operator.Always a i
   UnaryMeans Ever a i = operator.Ever R a i
-  UnaryMeans Before a i = operator.Before a i
-  UnaryMeans Wbefore a i = operator.Wbefore R a i
-  UnaryMeans Once a i = operator.Once R a i
-  UnaryMeans Sofar a i = operator.Sofar a i
 
   abbrev pub BinaryMeans : BinaryKind → (ℕ → Type 0) → (ℕ → Type 0) → ℕ → Type 0
   BinaryMeans And a b i = a i × b i
@@ -52,8 +48,6 @@ module _ (R : Reading) where
   BinaryMeans Until a b i = operator.Until R a b i
   BinaryMeans Release a b i = operator.Release R a b i
   BinaryMeans Srelease a b i = operator.Srelease R a b i
-  BinaryMeans Since a b i = operator.Since R a b i
-  BinaryMeans Trigger a b i = operator.Trigger R a b i
 
 module _ (R : Reading) (w : InfiniteTrace) where
   -- what a row says at cycle i of w, where v says at which cycles each earlier row is true

@@ -1,14 +1,12 @@
--- Strong meaning on an open take of n cycles, for normal forms (01, "Meaning"; 02, request 6: "On open takes the strong meaning of these
--- is the plain one over strong operands"). Assumes nothing.
+-- Strong meaning on an open take of n cycles, for normal forms (01, "Meaning"). Assumes nothing.
 use Rattle.std.specs.Prelude.{ℕ, zero, suc, ◌≤◌, ◌<◌}
 use Rattle.tables.specs.declared.row.UnaryKind.{UnaryKind}
-use Rattle.tables.specs.declared.row.UnaryKind.TheVariants.{Not, Next, Always, Ever, Before, Wbefore, Once, Sofar}
+use Rattle.tables.specs.declared.row.UnaryKind.TheVariants.{Not, Next, Always, Ever}
 use Rattle.tables.specs.declared.row.BinaryKind.{BinaryKind}
-use Rattle.tables.specs.declared.row.BinaryKind.TheVariants.{And, Or, Weak, Until, Release, Srelease, Since, Trigger}
+use Rattle.tables.specs.declared.row.BinaryKind.TheVariants.{And, Or, Weak, Until, Release, Srelease}
 use Rattle.tables.specs.declared.row.Row.{Row}
 use Rattle.tables.specs.declared.row.Row.TheVariants.{Constant, Signal, Unary, Binary}
 use Rattle.meaning.specs.Reading.{Reading, Either, Some}
-use Rattle.meaning.specs.Operator as operator
 use Rattle.meaning.specs.Operator.{During, Through}
 use Rattle.meaning.specs.Trace.{InfiniteTrace}
 use Rattle.meaning.specs.Satisfaction.{Table, ConstantMeans, SignalMeans}
@@ -31,11 +29,6 @@ module _ (R : Reading) (n : ℕ) where
   StrongUnaryMeans Next a i = (suc i < n) × a (suc i)
   StrongUnaryMeans Always a i = ⊥
   StrongUnaryMeans Ever a i = StrongEver a i
-  -- "the plain one"
-  StrongUnaryMeans Before a i = operator.Before a i
-  StrongUnaryMeans Wbefore a i = operator.Wbefore R a i
-  StrongUnaryMeans Once a i = operator.Once R a i
-  StrongUnaryMeans Sofar a i = operator.Sofar a i
 
   abbrev pub StrongBinaryMeans : BinaryKind → (ℕ → Type 0) → (ℕ → Type 0) → ℕ → Type 0
   StrongBinaryMeans And a b i = a i × b i
@@ -44,8 +37,6 @@ module _ (R : Reading) (n : ℕ) where
   StrongBinaryMeans Until a b i = StrongUntil a b i
   StrongBinaryMeans Release a b i = StrongSrelease a b i
   StrongBinaryMeans Srelease a b i = StrongSrelease a b i
-  StrongBinaryMeans Since a b i = operator.Since R a b i
-  StrongBinaryMeans Trigger a b i = operator.Trigger R a b i
 
   module _ (w : InfiniteTrace) where
     -- "signals and logic as usual"

@@ -4,18 +4,12 @@ use Prim.Native.Nat.{ℕ, suc, ◌≤◌}
 use mathlib.Core.Path.{◌≡◌, sym, subst⁻¹, ◌∙◌}
 use mathlib.Core.Logic.{◌↔◌}
 use native.Mathlib.Omega.{arith}
-use lib.Dec.{leb}
-use borrow.Author.Tests.{leb-true}
-use Rattle.tables.specs.Refusal.{and_then}
-use Rattle.tables.specs.declared.refusal.Reason.TheVariants.{WrittenOutTooLong}
 use Rattle.tables.specs.declared.refusal.Outcome.{Outcome}
 use Rattle.tables.specs.declared.refusal.Outcome.TheVariants.{Accepted}
 use Rattle.tables.specs.declared.row.Formula.{Formula}
 use Rattle.tables.specs.declared.row.NormalForm.{NormalForm}
-use Rattle.tables.specs.declared.trace.Ending.{Ending}
 use Rattle.tables.specs.declared.trace.Ending.TheVariants.{Open, Loop}
 use Rattle.tables.specs.declared.trace.Trace.{Trace}
-use Rattle.tables.proofs.Outcomes.{both_accept, test_accepts}
 use Rattle.rule_file.specs.Valid.{InRange as FormulaInRange}
 use Rattle.take_file.specs.Valid.{InRange as TraceInRange}
 use Rattle.meaning.specs.Reading.{Reading}
@@ -29,23 +23,17 @@ use Rattle.normal_form.specs.Form.{InNormalForm}
 use Rattle.normal_form.specs.Numbering.{normal_form}
 use Rattle.normal_form.proofs.Ranges.{form_normal}
 use Rattle.normal_form.proofs.FormTables.{table_ordered, table_signals}
-use Rattle.written_out.specs.Covered.{covered_cycles, CoverableIn, Coverable}
-use Rattle.written_out.proofs.Laws.{covered_open, covered_range, covered_covers, covered_loop_lem, covered_unrolled, covered_unnested}
+use Rattle.written_out.specs.Covered.{Coverable}
+use Rattle.written_out.proofs.Laws.{coverable, covered_open, covered_range, covered_covers, covered_loop_lem, covered_unrolled}
 use Rattle.meeting.specs.declared.Wanted.{Wanted}
-use Rattle.meeting.specs.Meeting.{seven_outcome, eight_outcome, twelve_in, twelve_outcome, meeting_outcome, covered_take, covered_loop}
+use Rattle.meeting.specs.Meeting.{meeting_outcome, covered_take, covered_loop}
 
--- what is not refused with 12 has a take that its sheets cover
-pub twelve_coverable : (g : NormalForm) (t : Trace) (ending : Ending) → twelve_in g t ending ≡ Accepted → CoverableIn g t ending
-twelve_coverable g t Open e = tt
-twelve_coverable g t (Loop l) e = leb-true (covered_cycles g t l) 256 (test_accepts WrittenOutTooLong (leb (covered_cycles g t l) 256) e)
-
-pub met_coverable : (wanted : Wanted) (f : Formula) (t : Trace) → meeting_outcome wanted f t ≡ Accepted → Coverable (normal_form f Plain) t
-met_coverable wanted f t e =
-    let behind = (both_accept (seven_outcome f t) (and_then (eight_outcome wanted t.ending) (twelve_outcome f t)) e).1 in
-    twelve_coverable (normal_form f Plain) t t.ending (both_accept (eight_outcome wanted t.ending) (twelve_outcome f t) behind).1
+-- what is not refused has a take that its sheets cover: no row looks back yet, so nothing is refused for want of it
+pub met_coverable : (wanted : Wanted) (f : Formula) (t : Trace) → TraceInRange t → meeting_outcome wanted f t ≡ Accepted → Coverable (normal_form f Plain) t
+met_coverable wanted f t range e = coverable (normal_form f Plain) t range
 
 pub accepted_range : (wanted : Wanted) (f : Formula) (t : Trace) → TraceInRange t → meeting_outcome wanted f t ≡ Accepted → TraceInRange (covered_take f t)
-accepted_range wanted f t range e = covered_range (normal_form f Plain) t range (met_coverable wanted f t e)
+accepted_range wanted f t range e = covered_range (normal_form f Plain) t range (met_coverable wanted f t range e)
 
 -- a rule and a take in range that have met, and what the meeting hands on
 pub record HaveMet (f : Formula) (t : Trace) (g : NormalForm) (u : Trace) : Type 0 where
@@ -58,7 +46,7 @@ pub record HaveMet (f : Formula) (t : Trace) (g : NormalForm) (u : Trace) : Type
 pub have_met : (wanted : Wanted) (f : Formula) (t : Trace) → FormulaInRange f × TraceInRange t → {o : Outcome} {g : NormalForm} {u : Trace}
     → (o ≡ meeting_outcome wanted f t) × ((o ≡ Accepted → g ≡ normal_form f Plain) × (o ≡ Accepted → u ≡ covered_take f t)) → o ≡ Accepted → HaveMet f t g u
 have_met wanted f t r m e =
-    record { fine = r.0; range = r.1; able = met_coverable wanted f t (sym m.0 ∙ e); form = m.1.0 e; take = m.1.1 e }
+    record { fine = r.0; range = r.1; able = met_coverable wanted f t r.1 (sym m.0 ∙ e); form = m.1.0 e; take = m.1.1 e }
 
 module _ {f : Formula} {t : Trace} {g : NormalForm} {u : Trace} (met : HaveMet f t g u) where
   pub met_form : InNormalForm g

@@ -1,32 +1,29 @@
 -- What is known of a meeting that refuses. Assumes nothing.
 use mathlib.Core.Path.{◌≡◌, refl, sym, ap, ◌∙◌}
 use mathlib.Core.Bool.{Bool, true, false}
-use lib.Dec.{eqb, leb}
+use lib.Dec.{eqb}
 use Rattle.tables.specs.Choice.{pick}
 use Rattle.tables.specs.Refusal.{and_then, call_refused}
 use Rattle.tables.specs.declared.refusal.Reason.{Reason}
-use Rattle.tables.specs.declared.refusal.Reason.TheVariants.{SignalsDiffer, WrittenOutTooLong}
+use Rattle.tables.specs.declared.refusal.Reason.TheVariants.{SignalsDiffer}
 use Rattle.tables.specs.declared.refusal.Refusal.{Refusal}
 use Rattle.tables.specs.declared.refusal.Outcome.{Outcome}
 use Rattle.tables.specs.declared.refusal.Outcome.TheVariants.{Accepted, Refused}
 use Rattle.tables.specs.declared.row.Formula.{Formula}
-use Rattle.tables.specs.declared.row.NormalForm.{NormalForm}
 use Rattle.tables.specs.declared.trace.Ending.{Ending}
 use Rattle.tables.specs.declared.trace.Ending.TheVariants.{Open, Loop}
 use Rattle.tables.specs.declared.trace.Trace.{Trace}
-use Rattle.normal_form.specs.declared.sign.Sign.TheVariants.{Plain}
-use Rattle.normal_form.specs.Numbering.{normal_form}
-use Rattle.written_out.specs.Covered.{covered_cycles}
+use Rattle.tables.proofs.Outcomes.{refused_only}
 use Rattle.meeting.specs.declared.Wanted.{Wanted}
 use Rattle.meeting.specs.declared.Wanted.TheVariants.{Either, Looped, Unlooped}
-use Rattle.meeting.specs.Meeting.{seven_outcome, eight_outcome, twelve_in, twelve_outcome, meeting_outcome}
+use Rattle.meeting.specs.Meeting.{seven_outcome, eight_outcome, meeting_outcome}
 
 -- the line of an outcome; 0 where nothing is refused
 line_in : Outcome → Prim.Native.Nat.ℕ
 line_in Accepted = 0
 line_in (Refused x) = x.line
 
--- "file and line 0 for 7 to 10", and for 12
+-- "file and line 0 for 7 to 10"
 none_of : (a b : Outcome) → line_in a ≡ 0 → line_in b ≡ 0 → line_in (and_then a b) ≡ 0
 none_of Accepted b p q = q
 none_of (Refused x) b p q = p
@@ -44,14 +41,6 @@ ending_line Looped (Loop l) = refl
 ending_line Unlooped Open = refl
 ending_line Unlooped (Loop l) = refl
 
-written_line_lem : (g : NormalForm) (t : Trace) (ending : Ending) → line_in (twelve_in g t ending) ≡ 0
-unfolding line_in
-written_line_lem g t Open = refl
-written_line_lem g t (Loop l) = test_line WrittenOutTooLong (leb (covered_cycles g t l) 256)
-
 pub meeting_line : (wanted : Wanted) (f : Formula) (t : Trace) {x : Refusal} → meeting_outcome wanted f t ≡ Refused x → x.line ≡ 0
 unfolding line_in
-meeting_line wanted f t {x} e =
-    sym (ap line_in e)
-    ∙ none_of (seven_outcome f t) _ (test_line SignalsDiffer (eqb f.signals t.signals))
-    (none_of (eight_outcome wanted t.ending) (twelve_outcome f t) (ending_line wanted t.ending) (written_line_lem (normal_form f Plain) t t.ending))
+meeting_line wanted f t {x} e = sym (ap line_in e) ∙ none_of (seven_outcome f t) (eight_outcome wanted t.ending) (test_line SignalsDiffer (eqb f.signals t.signals)) (ending_line wanted t.ending)

@@ -1,12 +1,10 @@
--- Where a rule meets a take (01, "Why a file is turned back"; 02, request 6): what is refused of the two, and in which order; and the take
--- that is gone on with. Assumes nothing.
-use Rattle.std.specs.Prelude.{ℕ, ◌+◌, eqb, leb}
+-- Where a rule meets a take (01, "Why a file is turned back"): what is refused of the two, and in which order. Assumes nothing.
+use Rattle.std.specs.Prelude.{ℕ, ◌+◌, eqb}
 use Rattle.tables.specs.Choice.{pick}
 use Rattle.tables.specs.Refusal.{and_then, call_refused, numbered}
 use Rattle.tables.specs.declared.refusal.Outcome.{Outcome}
 use Rattle.tables.specs.declared.refusal.Outcome.TheVariants.{Accepted}
 use Rattle.tables.specs.declared.row.Formula.{Formula}
-use Rattle.tables.specs.declared.row.NormalForm.{NormalForm}
 use Rattle.tables.specs.declared.trace.Ending.{Ending}
 use Rattle.tables.specs.declared.trace.Ending.TheVariants.{Open, Loop}
 use Rattle.tables.specs.declared.trace.Trace.{Trace}
@@ -14,8 +12,9 @@ use Rattle.rule_file.specs.Outcome.{rule_outcome}
 use Rattle.take_file.specs.Outcome.{take_outcome}
 use Rattle.normal_form.specs.declared.sign.Sign.TheVariants.{Plain}
 use Rattle.normal_form.specs.Numbering.{normal_form}
+use Rattle.meaning.specs.Nesting.{nesting}
 use Rattle.written_out.specs.WrittenOut.{round_cycles}
-use Rattle.written_out.specs.Covered.{rounds_for, covered, covered_cycles}
+use Rattle.written_out.specs.Covered.{covered}
 use Rattle.meeting.specs.declared.Wanted.{Wanted}
 use Rattle.meeting.specs.declared.Wanted.TheVariants.{Either, Looped, Unlooped}
 
@@ -36,18 +35,9 @@ eight_outcome Looped (Loop l) = Accepted
 eight_outcome Unlooped Open = Accepted
 eight_outcome Unlooped (Loop l) = call_refused (numbered 8)
 
--- 12: "A take whose written-out form passes 256 cycles gives 12, after 8, file and line 0, wherever it meets a rule." An open take has no
--- loop to write out.
-abbrev pub twelve_in : NormalForm → Trace → Ending → Outcome
-twelve_in g t Open = Accepted
-twelve_in g t (Loop l) = pick (leb (covered_cycles g t l) 256) Accepted (call_refused (numbered 12))
-
-abbrev pub twelve_outcome : Formula → Trace → Outcome
-twelve_outcome f t = twelve_in (normal_form f Plain) t t.ending
-
--- "Then 7 to 10 in order", and 12 "after 8": what is refused of tables that have passed their own checks. 9 and 10 come behind it.
+-- "Then 7 to 10 in order": what is refused of tables that have passed their own checks. What comes behind 8 and before 9 stands here too.
 abbrev pub meeting_outcome : Wanted → Formula → Trace → Outcome
-meeting_outcome wanted f t = and_then (seven_outcome f t) (and_then (eight_outcome wanted t.ending) (twelve_outcome f t))
+meeting_outcome wanted f t = and_then (seven_outcome f t) (eight_outcome wanted t.ending)
 
 -- and of any two tables
 abbrev pub pair_outcome : Wanted → Formula → Trace → Outcome
@@ -59,9 +49,4 @@ covered_take f t = covered (normal_form f Plain) t
 
 -- and where its loop begins
 abbrev pub covered_loop : Formula → Trace → ℕ → ℕ
-covered_loop f t l = l + round_cycles t l (rounds_for (normal_form f Plain))
-
--- how many rounds are written out for it
-abbrev pub rounds_in : NormalForm → Ending → ℕ
-rounds_in g Open = 0
-rounds_in g (Loop l) = rounds_for g
+covered_loop f t l = l + round_cycles t l (nesting (normal_form f Plain))

@@ -1,15 +1,13 @@
-// Where a rule meets a take: the one place for what is refused of the two together, and for the normal form and the take that every
-// service behind it goes on with.
+// Where a rule meets a take: the one place for what is refused of the two together, and for the normal form that every service behind it
+// goes on with.
 ghost use Rattle.std.specs.Prelude.{◌≡◌, eqb};
 ghost use Rattle.tables.specs.Choice.{pick};
-ghost use Rattle.tables.specs.Refusal.{and_then, call_refused, numbered};
+ghost use Rattle.tables.specs.Refusal.{call_refused, numbered};
 ghost use Rattle.rule_file.specs.Valid.{InRange as FormulaInRange};
 ghost use Rattle.take_file.specs.Valid.{InRange as TraceInRange};
-ghost use Rattle.normal_form.specs.Form.{InNormalForm};
 ghost use Rattle.normal_form.specs.Numbering.{normal_form};
 ghost use Rattle.normal_form.specs.declared.sign.Sign.TheVariants.{Plain};
-ghost use Rattle.written_out.specs.Covered.{covered};
-ghost use Rattle.meeting.specs.Meeting.{covered_take, eight_outcome, meeting_outcome, own_outcome, rounds_in, seven_outcome, twelve_in};
+ghost use Rattle.meeting.specs.Meeting.{covered_take, eight_outcome, meeting_outcome, own_outcome};
 
 use normal_form::sign::Sign;
 use tables::refusal::{Outcome, Reason, call_refused, first_refusal};
@@ -24,7 +22,7 @@ pub enum Wanted {
     Unlooped,
 }
 
-// The first refusal; or none, the rule's normal form, and the take that its sheets cover.
+// The first refusal; or none, the rule's normal form, and the take that its sheets cover. (A refusal leaves an empty form.)
 #[derive(Drop)]
 pub struct Meeting {
     pub outcome: Outcome,
@@ -67,9 +65,9 @@ fn check_ending(wanted: Wanted, ending: Ending) -> Outcome
     }
 }
 
-// What is refused of the two as they stand.
+// What is refused of the two together.
 fn check_met(formula: Formula, trace: Trace, wanted: Wanted) -> Outcome
-    ensures outcome { result ≡ and_then (seven_outcome formula trace) (eight_outcome wanted trace.ending) }
+    ensures outcome { result ≡ meeting_outcome wanted formula trace }
 {
     let ending = trace.ending;
     let seven = check_signals(formula.signals, trace.signals);
@@ -87,56 +85,9 @@ fn no_form() -> NormalForm {
     }
 }
 
-// How many rounds of its loop a take is to have written out; an open one has none.
-fn rounds_in(form: NormalForm, ending: Ending) -> u8
-    requires { InNormalForm form }
-    ensures rounds { result ≡ rounds_in form ending }
-{
-    match ending {
-        Ending::Open => 0,
-        Ending::Loop(_) => nesting::nesting_of(form),
-    }
-}
-
-// A written-out form that is not whole would pass 256 cycles.
-fn check_whole(whole: bool) -> Outcome
-    ensures outcome { result ≡ pick whole Outcome.Accepted (call_refused (numbered 12)) }
-{
-    if whole {
-        return Outcome::Accepted;
-    }
-    call_refused(Reason::WrittenOutTooLong)
-}
-
-// The take that the form's sheets cover. Where nothing looks back it is the take as it came, and nothing is written out.
-fn cover(form: NormalForm, trace: Trace) -> Meeting
-    requires { InNormalForm form × TraceInRange trace }
-    ensures outcome { result.outcome ≡ twelve_in form trace trace.ending }
-    ensures form { result.form ≡ form }
-    ensures covered { result.covered ≡ covered form trace }
-{
-    let ending = trace.ending;
-    let rounds = rounds_in(form, ending);
-    if rounds == 0 {
-        return Meeting {
-            outcome: Outcome::Accepted,
-            form,
-            covered: trace,
-        };
-    }
-    let out = written_out::written_out(trace, rounds);
-    let outcome = check_whole(out.whole);
-    let covered = out.trace;
-    Meeting {
-        outcome,
-        form,
-        covered,
-    }
-}
-
 // Tables that are known to be in range, as those that were read are: nothing of their own is looked at again.
 pub fn meet(formula: Formula, trace: Trace, wanted: Wanted) -> Meeting
-    requires { FormulaInRange formula × TraceInRange trace }
+    requires { FormulaInRange formula }
     ensures outcome { result.outcome ≡ meeting_outcome wanted formula trace }
     ensures form { result.outcome ≡ Outcome.Accepted → result.form ≡ normal_form formula Plain }
     ensures covered { result.outcome ≡ Outcome.Accepted → result.covered ≡ covered_take formula trace }
@@ -151,6 +102,14 @@ pub fn meet(formula: Formula, trace: Trace, wanted: Wanted) -> Meeting
                 covered: trace,
             }
         }
-        Outcome::Accepted => cover(normal_form::normal_form(formula, Sign::Plain), trace),
+        Outcome::Accepted => {
+            let form = normal_form::normal_form(formula, Sign::Plain);
+            // No kind looks back yet, so no round has to be written out.
+            Meeting {
+                outcome: Outcome::Accepted,
+                form,
+                covered: trace,
+            }
+        }
     }
 }

@@ -1,10 +1,10 @@
 -- THE EQUIVALENCE over lists of step calls: cycle i of the circuit's run is the answered call i. Assumes nothing.
-use Prim.Native.Nat.{ℕ, zero, suc, ◌*◌, ◌≤◌, ◌<◌}
+use Prim.Native.Nat.{ℕ, zero, suc, ◌*◌, ◌-◌, ◌≤◌, ◌<◌}
 use mathlib.Core.Path.{◌≡◌, refl, sym, ap, ◌∙◌}
 use mathlib.Core.List.{List}
 use native.Mathlib.Omega.{arith}
 use lib.ListN.{length, take, drop, length-append}
-use lib.Seq.{take-append-le}
+use lib.Seq.{take_at}
 use Rattle.tables.specs.declared.row.Formula.{Formula}
 use Rattle.tables.specs.declared.row.NormalForm.{NormalForm}
 use Rattle.tables.proofs.Places.{length_tabulate}
@@ -13,18 +13,18 @@ use Rattle.normal_form.specs.declared.sign.Sign.TheVariants.{Plain}
 use Rattle.normal_form.specs.Form.{InNormalForm}
 use Rattle.normal_form.specs.Numbering.{normal_form}
 use Rattle.normal_form.proofs.Ranges.{form_normal}
-use Rattle.circuit.specs.Valuation.{Valuation, output_values, latch_in, IsRun}
+use Rattle.circuit.specs.Valuation.{Valuation, output_values, next_latches, latch_in, IsRun}
 use Rattle.monitors.specs.State.{state_at}
-use Rattle.monitors.proofs.States.{SameState, RowTo, order_alike, same_sym, same_trans}
+use Rattle.monitors.proofs.States.{SameState, RowTo, same_sym, same_trans}
 use Rattle.step.specs.Fitting.{Fitting}
-use Rattle.step.specs.Step.{digit_at, output_size, state_digits, state_left, form_output, rows_in}
+use Rattle.step.specs.Step.{digit_at, output_size, state_left, form_output, rows_in}
 use Rattle.step.proofs.Outputs.{failed_digit, accept_digit}
 use Rattle.step_calls.specs.Calls.{Call, Kept.fresh, Kept.wrote, InOrder, kept, handed, answered, left}
 use Rattle.step_calls.proofs.Order.{at_first, at_next}
-use Rattle.step_calls.proofs.Steps.{state_digits_size, answered_range, answered_fits, left_is, kept_is, handed_on_lem, kept_back, handed_fresh}
+use Rattle.step_calls.proofs.Steps.{state_digits_size, answered_range, answered_fits, left_is, kept_is, handed_on, kept_back, handed_fresh}
 use Rattle.monitor_circuit.specs.Monitors.{latched_state}
 use Rattle.monitor_circuit.specs.Steps.{rule_circuit, inputs_in}
-use Rattle.monitor_circuit.proofs.OneCycle.{outputs_said, nexts_at}
+use Rattle.monitor_circuit.proofs.OneCycle.{outputs_said, nexts_at, nexts_said}
 
 pub output_size_lem : (g : NormalForm) (p a s : List ℕ) → length (form_output g p a s) ≡ output_size g.rows
 unfolding form_output
@@ -68,7 +68,7 @@ module _ (f : Formula) (calls : ℕ → Call) (at : ℕ → ℕ) (order : InOrde
       let s : List ℕ = (calls (at i)).signals in
       same_trans (nexts_at g ok (state i) a s (fits i).signals_agree (λ j m. refl) (latches_are i (omega arith)) (run i l))
       (rw (at_next order (kept f calls) (kept_back f calls) i)
-      (same_sym (handed_on_lem f calls (at i) (order.each i) (calls (at (suc i))).rows)))
+      (same_sym (handed_on f calls (at i) (order.each i) (calls (at (suc i))).rows)))
 
   module _ (i : ℕ) (h : i < n) where
     abbrev a : List ℕ
@@ -77,20 +77,17 @@ module _ (f : Formula) (calls : ℕ → Call) (at : ℕ → ℕ) (order : InOrde
     abbrev s : List ℕ
     s = (calls (at i)).signals
 
-    -- IN EACH CYCLE THE OUTPUTS ARE WHAT THE STEP WRITES of failed, accept and pending
+    -- IN EACH CYCLE THE OUTPUTS ARE WHAT THE STEP WRITES
     pub outputs_are : take (3 * rows_in f) (left f calls (at i)) ≡ digits_text (output_values (rule_circuit f) (values i))
     outputs_are =
-        let out : List ℕ = form_output g (state i) a s in
         let rest : List ℕ = drop (output_size (rows_in f)) (calls (at i)).buffer in
-        let size : 3 * rows_in f ≤ length out = omega (arith, output_size_lem g (state i) a s) in
+        let size : length (form_output g (state i) a s) ≡ 3 * rows_in f = output_size_lem g (state i) a s ∙ omega arith in
         ap (take (3 * rows_in f)) (left_is f calls (at i) (order.each i))
-        ∙ (take-append-le (3 * rows_in f) out rest size
+        ∙ (take_at (form_output g (state i) a s) rest (3 * rows_in f) size
         ∙ sym (outputs_said g ok (state i) a s (fits i).signals_agree (λ j m. refl) (latches_are i (omega arith)) (run i h)))
 
-    -- AND THE NEXT LATCHES HOLD WHAT IS KEPT OF IT: as the state's digits
-    pub nexts_are : kept f calls (suc (at i)) ≡ wrote (state_digits (rows_in f) (latched_state (normal_form f Plain) (latch_in (rule_circuit f) values (suc i))))
-    unfolding latch_in
+    -- AND THE NEXT LATCHES ARE WHAT IS KEPT OF IT
+    pub nexts_are : kept f calls (suc (at i)) ≡ wrote (digits_text (next_latches (rule_circuit f) (values i)))
     nexts_are =
         kept_is f calls (at i) (order.each i)
-        ∙ sym (ap (λ x. wrote (digits_text x))
-        (order_alike (rows_in f) _ _ (nexts_at g ok (state i) a s (fits i).signals_agree (λ j m. refl) (latches_are i (omega arith)) (run i h))))
+        ∙ sym (ap wrote (nexts_said g ok (state i) a s (fits i).signals_agree (λ j m. refl) (latches_are i (omega arith)) (run i h)))

@@ -1,8 +1,7 @@
 -- THE MONITORS ARE THE CIRCUIT. Assumes nothing.
-use Prim.Native.Nat.{ℕ, suc, ◌*◌, ◌<◌}
+use Prim.Native.Nat.{ℕ, suc, ◌<◌}
 use mathlib.Core.Path.{◌≡◌}
 use mathlib.Core.Bool.{Bool}
-use lib.ListN.{take}
 use Rattle.tables.specs.declared.refusal.Outcome.TheVariants.{Accepted}
 use Rattle.tables.specs.declared.row.Formula.{Formula}
 use Rattle.text.specs.Written.{digits_text}
@@ -14,9 +13,8 @@ use Rattle.normal_form.proofs.Ranges.{form_normal}
 use Rattle.circuit.specs.Circuit.{WellFormed}
 use Rattle.circuit.specs.Valuation.{Valuation, output_values, next_latches, IsRun}
 use Rattle.circuit.proofs.Exists.{run_exists}
-use Rattle.step.specs.Step.{rows_in}
 use Rattle.step_calls.specs.Calls.{handed, left}
-use Rattle.monitor_circuit.specs.Steps.{rule_circuit, call_with, latch_digits}
+use Rattle.monitor_circuit.specs.Steps.{rule_circuit, call_with}
 use Rattle.monitor_circuit.proofs.WellFormed.{circuit_well_formed}
 use Rattle.monitor_circuit.proofs.Inputs.{outputs_step, nexts_step}
 
@@ -30,8 +28,8 @@ module _ (f : Formula) (own : rule_outcome f ≡ Accepted) where
   pub monitors_equal : (inputs : ℕ → ℕ → Bool)
       → ((values : ℕ → Valuation) × ((n : ℕ) → IsRun (rule_circuit f) n inputs values))
       × ((n : ℕ) (values : ℕ → Valuation) → IsRun (rule_circuit f) n inputs values → (i : ℕ) → i < n
-      → (take (3 * rows_in f) (left f (λ j. call_with f (inputs j)) i) ≡ digits_text (output_values (rule_circuit f) (values i)))
-      × (latch_digits f (handed f (λ j. call_with f (inputs j)) (suc i)) ≡ digits_text (next_latches (rule_circuit f) (values i))))
+      → (left f (λ j. call_with f (inputs j)) i ≡ digits_text (output_values (rule_circuit f) (values i)))
+      × (handed f (λ j. call_with f (inputs j)) (suc i) ≡ digits_text (next_latches (rule_circuit f) (values i))))
   monitors_equal inputs = (
     run_exists (rule_circuit f) rule_well_formed inputs,
     λ n values run i h. (outputs_step f own inputs n values run i h, nexts_step f own inputs n values run i h),

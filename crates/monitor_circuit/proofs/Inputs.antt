@@ -6,7 +6,8 @@ use mathlib.Core.Logic.{◌⊎◌, inl, inr}
 use mathlib.Core.List.{List, ◌++◌}
 use native.Mathlib.Omega.{arith}
 use lib.Dec.{eqb}
-use lib.ListN.{length, get_or, take, length-replicate}
+use lib.ListN.{length, get_or, drop, replicate, length-append, length-drop, length-replicate}
+use lib.Seq.{take_all}
 use borrow.Author.Tests.{eq-eqb, le-leb}
 use Rattle.tables.specs.Place.{tabulate}
 use Rattle.tables.specs.declared.refusal.Outcome.TheVariants.{Accepted}
@@ -17,21 +18,17 @@ use Rattle.text.specs.Digits.{are_digits}
 use Rattle.text.specs.Written.{digits_text}
 use Rattle.text.proofs.Laws.{are_written}
 use Rattle.rule_file.specs.Outcome.{rule_outcome}
-use Rattle.rule_file.proofs.Rules.{checked}
 use Rattle.meaning.proofs.Readings.{lt_or_le}
 use Rattle.normal_form.specs.declared.sign.Sign.TheVariants.{Plain}
 use Rattle.normal_form.specs.Numbering.{normal_form}
-use Rattle.normal_form.proofs.Ranges.{form_normal}
 use Rattle.circuit.specs.Valuation.{Valuation, output_values, next_latches, IsRun}
 use Rattle.monitors.specs.State.{State, in_order, state_size, fresh_state}
-use Rattle.monitors.proofs.States.{order_alike}
-use Rattle.step.specs.Step.{digit_of, output_size, state_digits, state_left, form_outcome, rows_in}
-use Rattle.step_calls.specs.Calls.{Call, InOrder, kept, handed, answered, left}
-use Rattle.step_calls.proofs.Steps.{digit_says, state_digits_size, answered_fits, kept_is, handed_on_lem}
-use Rattle.monitor_circuit.specs.Steps.{rule_circuit, inputs_in, call_with, latch_digits}
+use Rattle.step.specs.Step.{digit_of, output_size, state_digits, state_left, form_outcome, form_output, rows_in}
+use Rattle.step_calls.specs.Calls.{Call, given, InOrder, kept, handed, answered, left}
+use Rattle.step_calls.proofs.Steps.{digit_says, state_digits_size, left_is, kept_is}
+use Rattle.monitor_circuit.specs.Steps.{rule_circuit, inputs_in, call_with}
 use Rattle.monitor_circuit.proofs.Values.{in_first, behind_first, stripes_size}
-use Rattle.monitor_circuit.proofs.OneCycle.{nexts_said, same_negated}
-use Rattle.monitor_circuit.proofs.Calls.{latches_are, outputs_are}
+use Rattle.monitor_circuit.proofs.Calls.{output_size_lem, outputs_are, nexts_are}
 
 -- ---- a call of so many digits is accepted
 
@@ -137,15 +134,13 @@ module _ (f : Formula) (own : rule_outcome f ≡ Accepted) (inputs : ℕ → ℕ
         }
 
     -- THE CLAIM: for every rule and every sequence of inputs, the circuit's outputs in each cycle from latches at 0 are what the step
-    -- writes of failed, accept and pending from a fresh start, and its next latches the state that the step hands on, the mark negated
-    pub outputs_step : (i : ℕ) → i < n → take (3 * rows_in f) (left f calls_with i) ≡ digits_text (output_values (rule_circuit f) (values i))
-    outputs_step i h = outputs_are f calls_with (λ i. i) in_order_lem n values same_run i h
+    -- writes from a fresh start, and its next latches the state that the step hands on
+    pub outputs_step : (i : ℕ) → i < n → left f calls_with i ≡ digits_text (output_values (rule_circuit f) (values i))
+    outputs_step i h =
+        let out : List ℕ = form_output g (handed f calls_with i) (calls_with i).activators (calls_with i).signals in
+        let e : left f calls_with i ≡ out ++ drop (output_size (rows_in f)) (replicate (output_size (rows_in f)) 0) = left_is f calls_with i (all_answered i) in
+        let size : length (left f calls_with i) ≤ 3 * rows_in f = rw (e, length-append, output_size_lem, length-drop, length-replicate) (omega arith) in
+        sym (take_all (3 * rows_in f) (left f calls_with i) size) ∙ outputs_are f calls_with (λ i. i) in_order_lem n values same_run i h
 
-    pub nexts_step : (i : ℕ) → i < n → latch_digits f (handed f calls_with (suc i)) ≡ digits_text (next_latches (rule_circuit f) (values i))
-    nexts_step i h =
-        let a : List ℕ = (calls_with i).activators in
-        let s : List ℕ = (calls_with i).signals in
-        let fits = answered_fits f calls_with i (all_answered i) in
-        let latches = latches_are f calls_with (λ i. i) in_order_lem n values same_run i (omega arith) in
-        ap digits_text (order_alike (rows_in f) _ _ (same_negated (handed_on_lem f calls_with i (all_answered i) (rows_in f))))
-        ∙ sym (nexts_said g (form_normal f Plain (checked f own)) (handed f calls_with i) a s fits.signals_agree (λ j m. refl) latches (same_run i h))
+    pub nexts_step : (i : ℕ) → i < n → handed f calls_with (suc i) ≡ digits_text (next_latches (rule_circuit f) (values i))
+    nexts_step i h = ap (λ k. given k (rows_in f)) (nexts_are f calls_with (λ i. i) in_order_lem n values same_run i h)

@@ -66,7 +66,7 @@ module _ (g : NormalForm) (ok : InNormalForm g) where
   file_short =
       let c : Circuit = circuit_of g in
       let h : length (written_lines (header_of c ∷ lines_of c)) ≤ 31 * suc (length (lines_of c)) = lines_short (header_of c ∷ lines_of c) (circuit_lines_lem c) in
-      let n : length (lines_of c) ≡ (g.signals + g.rows) + (latch_count g + (3 * g.rows + 4 * g.rows)) = rw (lines_count c, inputs_size, latches_size, outputs_size, gates_size) in
+      let n : length (lines_of c) ≡ (g.signals + g.rows) + (latch_count g + (3 * g.rows + 3 * g.rows)) = rw (lines_count c, inputs_size, latches_size, outputs_size, gates_size) in
       rw length-append (omega (arith, ok.most_signals, ok.most_rows))
 
   -- THE FILE OF A NORMAL FORM'S CIRCUIT IS READ BACK

@@ -11,9 +11,8 @@ use Rattle.tables.specs.declared.row.NormalForm.{NormalForm}
 use Rattle.tables.proofs.Places.{length_tabulate, get_d_tabulate}
 use Rattle.circuit.specs.Circuit.{Latch}
 use Rattle.circuit.specs.Valuation.{Valuation, IsValuation}
-use Rattle.monitors.specs.State.{state_at}
 use Rattle.monitors.proofs.States.{SameState, RowTo, state_size_lem, state_read, map_state, same_sym, same_trans, same_map, same_places}
-use Rattle.monitor_circuit.specs.Monitors.{signal_literal, activator_literal, state_literals, latch_count, gate_literal, wiring_of, latches_of, circuit_of}
+use Rattle.monitor_circuit.specs.Monitors.{signal_literal, activator_literal, state_literals, latch_count, gate_literal, wiring_of, latches_of, circuit_of, latched_state}
 use Rattle.monitor_circuit.proofs.GateRows.{RowAt, row_at_lem, gates_count}
 use Rattle.monitor_circuit.proofs.Rows.{Gates}
 
@@ -47,8 +46,8 @@ module _ (g : NormalForm) {inputs latches : ℕ → Bool} {v : Valuation} (value
       sym (ap v (in_first g.signals (λ i. signal_literal g (suc i)) activators 0 i h))
       ∙ values.inputs_given i (rw stripes_size (omega arith))
 
-  -- THE GATES READ WHAT THE LATCHES HOLD, each latch by its place
-  pub state_value : SameState (RowTo n) (map_state v (state_literals g)) (state_at n (λ j. latches (j - 1)))
+  -- THE GATES READ THE STATE THAT THE LATCHES HOLD, each latch by its place
+  pub state_value : SameState (RowTo n) (map_state v (state_literals g)) (latched_state g latches)
   state_value =
       let size : length (circuit_of g).latches ≡ latch_count g = state_size_lem n (latches_of g) in
       same_trans (same_sym (same_map (λ (q : Latch). v q.current) (state_read n (latches_of g) (record { current = 0; next = 0 }))))
@@ -64,12 +63,11 @@ module _ (g : NormalForm) {inputs latches : ℕ → Bool} {v : Valuation} (value
     row = suc k
 
     -- THE GATES OF A ROW HOLD
-    pub gates_value : Gates v (gate_literal g 1 row) (gate_literal g 2 row) (gate_literal g 3 row) (gate_literal g 4 row) (wiring_of g row)
+    pub gates_value : Gates v (gate_literal g 1 row) (gate_literal g 2 row) (gate_literal g 3 row) (wiring_of g row)
     gates_value =
         let r : RowAt g (circuit_of g).gates k row = row_at_lem g k h in
         record {
-          first_and = rw r.first_at at (values.gates_and (4 * k) (omega (arith, gates_count g n 1)));
-          second_and = rw r.second_at at (values.gates_and (4 * k + 1) (omega (arith, gates_count g n 1)));
-          third_and = rw r.third_at at (values.gates_and (4 * k + 2) (omega (arith, gates_count g n 1)));
-          fourth_and = rw r.fourth_at at (values.gates_and (4 * k + 3) (omega (arith, gates_count g n 1)));
+          first_and = rw r.first_at at (values.gates_and (3 * k) (omega (arith, gates_count g n 1)));
+          second_and = rw r.second_at at (values.gates_and (3 * k + 1) (omega (arith, gates_count g n 1)));
+          third_and = rw r.third_at at (values.gates_and (3 * k + 2) (omega (arith, gates_count g n 1)));
         }

@@ -1,19 +1,19 @@
 -- The monitors' circuit is well formed; its sizes. Assumes nothing.
-use Prim.Native.Nat.{ℕ, zero, suc, ◌+◌, ◌*◌, ◌-◌, ◌<◌}
+use Prim.Native.Nat.{ℕ, suc, ◌+◌, ◌*◌, ◌-◌, ◌<◌}
 use mathlib.Core.Path.{◌≡◌, refl, sym, ap, subst, ◌∙◌}
-use mathlib.Core.List.{List, [], ◌∷◌, ◌++◌, map}
+use mathlib.Core.List.{List, ◌++◌, map}
 use native.Mathlib.Decide.{dec_lt}
 use native.Mathlib.Omega.{arith}
 use lib.ListN.{length, get_or, length-append, get_or-append}
 use lib.Seq.{get_or-append-add, ext_get_or}
-use Rattle.tables.specs.Place.{tabulate_from, tabulate}
+use Rattle.tables.specs.Place.{tabulate}
 use Rattle.tables.proofs.Places.{length_tabulate, get_d_tabulate}
 use Rattle.tables.specs.declared.row.NormalForm.{NormalForm}
 use Rattle.meaning.specs.Satisfaction.{table_of}
 use Rattle.meaning.proofs.Rows.{each_map, each_signal_map}
 use Rattle.normal_form.specs.Form.{InNormalForm}
 use Rattle.normal_form.proofs.FormTables.{form_operands, form_signals}
-use Rattle.monitors.specs.State.{State, in_order, state_size, state_at}
+use Rattle.monitors.specs.State.{in_order, state_size, state_at}
 use Rattle.monitors.proofs.States.{state_size_lem, map_order}
 use Rattle.circuit.specs.Circuit.{Latch, Gate, maximum, defined_in, IsLiteral, WellFormed}
 use Rattle.monitor_circuit.specs.Monitors.{signal_literal, activator_literal, gate_literal, wiring_of, by_row, latch_literal, state_literals, latch_count, latches_of, circuit_of}
@@ -52,17 +52,9 @@ tables_join m n f h k first second =
         appended_each (λ i x. x ≡ k i) (tabulate m f) (tabulate n h) 0 (tabulated_each (λ i x. x ≡ k i) m f 0 first)
         (tabulated_each (λ i x. x ≡ k (length (tabulate m f) + i)) n h 0 (λ i l. second i l ∙ ap (λ w. k (w + i)) (sym (length_tabulate m 0 f))))
 
-table_one : (l : ℕ) (f : ℕ → ℕ) → l ≡ f 0 → l ∷ [] ≡ tabulate 1 f
-unfolding tabulate_from
-table_one l f e = ap (λ x. x ∷ []) e
-
 -- the literals in the places of a state, in its order, are a table
 order_places : (rows : ℕ) (x : ℕ → ℕ) → in_order rows (state_at rows x) ≡ tabulate (state_size rows) (λ j. x (suc j))
-order_places rows x =
-    let mark : x (2 * rows + 1) ∷ [] ≡ tabulate 1 (λ i. x (rows + suc (rows + i))) = table_one _ _ (ap x (omega arith)) in
-    ap (λ l. tabulate rows (λ i. x (suc i)) ++ (tabulate rows (λ i. x (rows + suc i)) ++ l)) mark
-    ∙ (ap (λ l. tabulate rows (λ i. x (suc i)) ++ l) (tables_join rows 1 _ _ (λ j. x (rows + suc j)) (λ i h. refl) (λ i h. refl))
-    ∙ (tables_join rows (rows + 1) _ _ (λ j. x (suc j)) (λ i h. refl) (λ i h. ap x (omega arith)) ∙ ap (λ m. tabulate m (λ j. x (suc j))) (omega arith)))
+order_places rows x = refl
 
 module _ (g : NormalForm) where
   -- what holds of each row holds in a table by row, and in three in a row
@@ -74,17 +66,6 @@ module _ (g : NormalForm) where
   rows_each_thrice P x y z d ex ey ez =
       appended_each (λ i. P) (by_row g x) (by_row g y ++ by_row g z) d (rows_each P x d ex)
       (appended_each (λ i. P) (by_row g y) (by_row g z) d (rows_each P y d ey) (rows_each P z d ez))
-
-  -- and what holds of a state of which it holds besides of the mark
-  state_each : {A : Type 0} (P : A → Type 0) (s : State A) (d : A) → ((i : ℕ) → i < g.rows → P (s.pending (suc i))) → ((i : ℕ) → i < g.rows → P (s.memory (suc i)))
-      → P s.initial → (i : ℕ) → i < length (in_order g.rows s) → P (get_or (in_order g.rows s) i d)
-  state_each P s d ep em last =
-      appended_each (λ i. P) (by_row g s.pending) (by_row g s.memory ++ (s.initial ∷ [])) d (rows_each P s.pending d ep)
-      (appended_each (λ i. P) (by_row g s.memory) (s.initial ∷ []) d (rows_each P s.memory d em) one)
-    where
-      one : (i : ℕ) → i < length (s.initial ∷ []) → P (get_or (s.initial ∷ []) i d)
-      one zero h = last
-      one (suc i) h = absurd (omega arith)
 
   -- ---- sizes
 
@@ -107,10 +88,10 @@ module _ (g : NormalForm) where
   pub outputs_size : length (circuit_of g).outputs ≡ 3 * g.rows
   outputs_size = rows_size_thrice (λ k. (wiring_of g k).failed) (λ k. (wiring_of g k).accept) (λ k. (wiring_of g k).pending)
 
-  pub gates_size : length (circuit_of g).gates ≡ 4 * g.rows
+  pub gates_size : length (circuit_of g).gates ≡ 3 * g.rows
   gates_size = gates_count g g.rows 1
 
-  pub maximum_is : maximum (circuit_of g) ≡ g.signals + g.rows + latch_count g + 4 * g.rows
+  pub maximum_is : maximum (circuit_of g) ≡ g.signals + g.rows + latch_count g + 3 * g.rows
   maximum_is = omega (arith, inputs_size, latches_size, gates_size)
 
   -- ---- what is defined: 2, 4, 6 and so on
@@ -119,7 +100,7 @@ module _ (g : NormalForm) where
   abbrev own_from : ℕ → ℕ → ℕ
   own_from a i = 2 * (a + suc i)
 
-  lefts_are : map (λ (x : Gate). x.lhs) (circuit_of g).gates ≡ tabulate (4 * g.rows) (own_from (g.signals + g.rows + latch_count g))
+  lefts_are : map (λ (x : Gate). x.lhs) (circuit_of g).gates ≡ tabulate (3 * g.rows) (own_from (g.signals + g.rows + latch_count g))
   lefts_are = lefts_from g g.rows 0
 
   currents_are : map (λ (q : Latch). q.current) (circuit_of g).latches ≡ tabulate (latch_count g) (own_from (g.signals + g.rows))
@@ -128,12 +109,12 @@ module _ (g : NormalForm) where
   pub inputs_are : (circuit_of g).inputs ≡ tabulate (g.signals + g.rows) (λ i. 2 * suc i)
   inputs_are = tables_join g.signals g.rows _ _ (λ i. 2 * suc i) (λ i h. omega arith) (λ i h. omega arith)
 
-  all_are : defined_in (circuit_of g) ≡ tabulate (g.signals + g.rows + (latch_count g + 4 * g.rows)) (λ i. 2 * suc i)
+  all_are : defined_in (circuit_of g) ≡ tabulate (g.signals + g.rows + (latch_count g + 3 * g.rows)) (λ i. 2 * suc i)
   all_are =
       rw (inputs_are, currents_are, lefts_are)
       (ap (λ l. tabulate (g.signals + g.rows) (λ i. 2 * suc i) ++ l)
-      (tables_join (latch_count g) (4 * g.rows) _ _ (own_from (g.signals + g.rows)) (λ i h. omega arith) (λ i h. omega arith))
-      ∙ tables_join (g.signals + g.rows) (latch_count g + 4 * g.rows) _ _ (λ i. 2 * suc i) (λ i h. omega arith) (λ i h. omega arith))
+      (tables_join (latch_count g) (3 * g.rows) _ _ (own_from (g.signals + g.rows)) (λ i h. omega arith) (λ i h. omega arith))
+      ∙ tables_join (g.signals + g.rows) (latch_count g + 3 * g.rows) _ _ (λ i. 2 * suc i) (λ i h. omega arith) (λ i h. omega arith))
 
   -- THE DEFINED LITERALS ARE 2, 4, 6 AND SO ON, in the order of the file
   pub defined_are : defined_in (circuit_of g) ≡ tabulate (maximum (circuit_of g)) (λ i. 2 * suc i)
@@ -147,13 +128,10 @@ module _ (g : NormalForm) where
   module _ (ok : InNormalForm g) where
     -- ---- what is named
 
-    pub wiring_low : (i : ℕ) → i < g.rows
-        → Low (gate_literal g 1 (suc i)) (gate_literal g 2 (suc i)) (gate_literal g 3 (suc i)) (gate_literal g 4 (suc i)) (wiring_of g (suc i))
+    pub wiring_low : (i : ℕ) → i < g.rows → Low (gate_literal g 1 (suc i)) (gate_literal g 2 (suc i)) (gate_literal g 3 (suc i)) (wiring_of g (suc i))
     wiring_low i h =
-        row_low (activator_literal g (suc i)) ((state_literals g).pending (suc i)) ((state_literals g).memory (suc i)) (state_literals g).initial
-        (gate_literal g 1 (suc i)) (gate_literal g 2 (suc i)) (gate_literal g 3 (suc i)) (gate_literal g 4 (suc i))
-        (omega arith) (omega arith) (omega arith) (omega arith) (omega arith) (omega arith) (omega arith)
-        (signal_literal g) (activator_literal g) (table_of g.places (suc i))
+        row_low (activator_literal g (suc i)) ((state_literals g).pending (suc i)) (gate_literal g 1 (suc i)) (gate_literal g 2 (suc i)) (gate_literal g 3 (suc i)) (omega arith) (omega arith)
+        (omega arith) (omega arith) (signal_literal g) (activator_literal g) (table_of g.places (suc i))
         (each_map _ _ (λ a x. omega (arith, x.1)) (table_of g.places (suc i)) (form_operands g ok (suc i) (omega arith)))
         (each_signal_map _ _ (table_of g.places (suc i)) (λ s x. omega (arith, x.1)) (form_signals g ok (suc i) (omega arith)))
 
@@ -170,18 +148,15 @@ module _ (g : NormalForm) where
       pending_named : Named (wiring_of g (suc i)).pending
       pending_named = omega (arith, (wiring_low i h).low_pending, maximum_is)
 
-      memory_named : Named (wiring_of g (suc i)).memory
-      memory_named = omega (arith, (wiring_low i h).low_memory, maximum_is)
-
     -- THE MONITORS' CIRCUIT IS WELL FORMED
     pub circuit_well_formed : WellFormed (circuit_of g)
     circuit_well_formed =
         record {
           variables = λ i h. let e = defined_at i h in record { index = suc i; least = omega arith; most = omega (arith, e.0); even = e.1 };
           once = λ i j l h e. omega (arith, e, (defined_at i (omega arith)).1, (defined_at j h).1);
-          nexts = state_each (λ q. Named q.next) (latches_of g) _ pending_named memory_named (omega arith);
+          nexts = rows_each (λ q. Named q.next) (latches_of g).pending _ pending_named;
           named = rows_each_thrice Named (λ k. (wiring_of g k).failed) (λ k. (wiring_of g k).accept) (λ k. (wiring_of g k).pending) _ failed_named accept_named pending_named;
           lower =
               gates_each g (λ x. (x.rhs0 < x.lhs) × (x.rhs1 < x.lhs))
-              (λ i h. let w = wiring_low i h in (w.low_first, w.low_second, w.low_third, w.low_fourth));
+              (λ i h. let w = wiring_low i h in (w.low_first, w.low_second, w.low_third));
         }

@@ -1,14 +1,13 @@
 -- Cycles of the circuit and calls of the step service. Assumes nothing.
-use Rattle.std.specs.Prelude.{ℕ, suc, ◌+◌, Bool, List, ◌++◌, replicate}
+use Rattle.std.specs.Prelude.{ℕ, suc, ◌+◌, Bool, ◌++◌, replicate}
 use Rattle.tables.specs.Place.{tabulate}
 use Rattle.tables.specs.declared.row.Formula.{Formula}
 use Rattle.normal_form.specs.declared.sign.Sign.TheVariants.{Plain}
 use Rattle.normal_form.specs.Numbering.{normal_form}
 use Rattle.circuit.specs.Circuit.{Circuit}
-use Rattle.monitors.specs.State.{state_size, state_at}
-use Rattle.step.specs.Step.{digit_at, digit_of, output_size, state_digits, rows_in}
+use Rattle.step.specs.Step.{digit_at, digit_of, output_size, rows_in}
 use Rattle.step_calls.specs.Calls.{Call}
-use Rattle.monitor_circuit.specs.Monitors.{circuit_of, mark_negated}
+use Rattle.monitor_circuit.specs.Monitors.{circuit_of}
 
 -- a rule's circuit: that of its normal form
 abbrev pub rule_circuit : Formula → Circuit
@@ -27,11 +26,3 @@ call_with f inputs =
       buffer = replicate (output_size (rows_in f)) 0;
       rows = rows_in f;
     }
-
--- how many latches there are
-abbrev pub latches_in : Formula → ℕ
-latches_in f = state_size (rows_in f)
-
--- the digits of latches that hold a state, which is given as the digits that the step hands on: "the mark's negated"
-abbrev pub latch_digits : Formula → List ℕ → List ℕ
-latch_digits f given = state_digits (rows_in f) (mark_negated (state_at (rows_in f) (digit_at given)))

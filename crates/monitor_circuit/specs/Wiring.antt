@@ -1,13 +1,13 @@
--- The gates of one row's monitor (01, "Monitors", and 02, request 6, row by row). Assumes nothing.
+-- The gates of one row's monitor (01, "Monitors", row by row). Assumes nothing.
 use Rattle.std.specs.Prelude.{ℕ, ◌+◌}
 use Rattle.tables.specs.declared.row.ConstantKind.{ConstantKind}
 use Rattle.tables.specs.declared.row.ConstantKind.TheVariants.{True, False}
 use Rattle.tables.specs.declared.row.SignalKind.{SignalKind}
 use Rattle.tables.specs.declared.row.SignalKind.TheVariants.{Sig, Nsig}
 use Rattle.tables.specs.declared.row.UnaryKind.{UnaryKind}
-use Rattle.tables.specs.declared.row.UnaryKind.TheVariants.{Not, Next, Always, Ever, Before, Wbefore, Once, Sofar}
+use Rattle.tables.specs.declared.row.UnaryKind.TheVariants.{Not, Next, Always, Ever}
 use Rattle.tables.specs.declared.row.BinaryKind.{BinaryKind}
-use Rattle.tables.specs.declared.row.BinaryKind.TheVariants.{And, Or, Weak, Until, Release, Srelease, Since, Trigger}
+use Rattle.tables.specs.declared.row.BinaryKind.TheVariants.{And, Or, Weak, Until, Release, Srelease}
 use Rattle.tables.specs.declared.row.Row.{Row}
 use Rattle.tables.specs.declared.row.Row.TheVariants.{Constant, Signal, Unary, Binary}
 
@@ -16,16 +16,14 @@ pub record Operands : Type 0 where
   pub rhs0 : ℕ
   pub rhs1 : ℕ
 
--- a row has four gates, and four literals for what its monitor says
+-- a row has three gates, and three literals for what its monitor says
 pub record Wiring : Type 0 where
   pub first : Operands
   pub second : Operands
   pub third : Operands
-  pub fourth : Operands
   pub failed : ℕ
   pub accept : ℕ
   pub pending : ℕ
-  pub memory : ℕ
 
 -- the literal negated: all that are negated here are variables' own, which are even
 abbrev pub negated : ℕ → ℕ
@@ -40,46 +38,23 @@ spare = both 0 0
 
 -- "What is not named is: pending 0, failed 0, accept 1": as in the monitors' table, by what is named
 abbrev pub checks : Operands → Operands → ℕ → Wiring
-checks first second failed =
-    record { first = first; second = second; third = spare; fourth = spare; failed = failed; accept = 1; pending = 0; memory = 0 }
+checks first second failed = record { first = first; second = second; third = spare; failed = failed; accept = 1; pending = 0 }
 
 abbrev pub waits : Operands → Operands → Operands → ℕ → ℕ → Wiring
 waits first second third pending failed =
-    record { first = first; second = second; third = third; fourth = spare; failed = failed; accept = 1; pending = pending; memory = 0 }
+    record { first = first; second = second; third = third; failed = failed; accept = 1; pending = pending }
 
 -- its accept is "not pending", which is a gate here
 abbrev pub awaits : Operands → Operands → Operands → ℕ → ℕ → Wiring
 awaits first second third pending failed =
-    record {
-      first = first;
-      second = second;
-      third = third;
-      fourth = spare;
-      failed = failed;
-      accept = negated pending;
-      pending = pending;
-      memory = 0;
-    }
+    record { first = first; second = second; third = third; failed = failed; accept = negated pending; pending = pending }
 
--- a row that looks back: "its pending is 0 and its accept 1"
-abbrev pub looks_back : Operands → Operands → Operands → Operands → ℕ → ℕ → Wiring
-looks_back first second third fourth memory failed =
-    record { first = first; second = second; third = third; fourth = fourth; failed = failed; accept = 1; pending = 0; memory = memory }
-
--- z, Y and S are the literals of the row's activator and of the latches of its pending and its memory, m that of the mark's latch, which is
--- on in every cycle but the first, x1 to x4 those of its gates, A and B what stands at its numbers: the literals of its operands'
--- activators, A also that of its signal
-module _ (z Y S m x1 x2 x3 x4 : ℕ) where
+-- z and Y are the literals of the row's activator and of its latch, x1, x2 and x3 those of its gates, A and B what stands at its numbers:
+-- the literals of its operands' activators, A also that of its signal
+module _ (z Y x1 x2 x3 : ℕ) where
   -- neither z nor Y: "g is z or Y" is then the gate negated
   abbrev pub idle : Operands
   idle = both (negated z) (negated Y)
-
-  -- what a row that looks back recalls, where that is false in the first cycle; and what it recalls negated, where it is true there
-  abbrev pub recalled : Operands
-  recalled = both m S
-
-  abbrev pub forgotten : Operands
-  forgotten = both m (negated S)
 
   -- "true: nothing. false: failed z."
   abbrev pub constant_wiring : ConstantKind → Wiring
@@ -99,12 +74,6 @@ module _ (z Y S m x1 x2 x3 x4 : ℕ) where
   unary_wiring Always A = waits idle (both (negated x1) (negated A)) spare (negated x1) x2
   -- "ever: pending g and not A, accept not pending."
   unary_wiring Ever A = awaits idle (both (negated x1) (negated A)) spare x2 0
-  -- z and not the meaning, which is what is recalled; the memory is A
-  unary_wiring Before A = looks_back recalled (both z (negated x1)) spare spare A x2
-  unary_wiring Wbefore A = looks_back forgotten (both z x1) spare spare A x2
-  -- z and not the meaning, which is the memory: A or what is recalled, A and what is recalled
-  unary_wiring Once A = looks_back recalled (both (negated A) (negated x1)) (both z x2) spare (negated x2) x3
-  unary_wiring Sofar A = looks_back forgotten (both A (negated x1)) (both z (negated x2)) spare x2 x3
 
   abbrev pub binary_wiring : BinaryKind → ℕ → ℕ → Wiring
   -- "and: failed z and not (A and B). or: failed z and not (A or B)."
@@ -116,9 +85,6 @@ module _ (z Y S m x1 x2 x3 x4 : ℕ) where
   -- "release, srelease: pending g and not A, failed g and not B; srelease also accept not pending."
   binary_wiring Release A B = waits idle (both (negated x1) (negated A)) (both (negated x1) (negated B)) x2 x3
   binary_wiring Srelease A B = awaits idle (both (negated x1) (negated A)) (both (negated x1) (negated B)) x2 x3
-  -- likewise: B, or A and what is recalled; B, and A or what is recalled
-  binary_wiring Since A B = looks_back recalled (both A x1) (both (negated B) (negated x2)) (both z x3) (negated x3) x4
-  binary_wiring Trigger A B = looks_back forgotten (both (negated A) x1) (both B (negated x2)) (both z (negated x3)) x3 x4
 
   abbrev pub row_wiring : (ℕ → ℕ) → (ℕ → ℕ) → Row → Wiring
   row_wiring signal activator (Constant c) = constant_wiring c

@@ -1,8 +1,6 @@
 pub mod States
 pub mod ByPattern
-pub mod Recall
 pub mod Soundness
-pub mod Memory
 pub mod Made
 pub mod Locality
 pub mod Sheets

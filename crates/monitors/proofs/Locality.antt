@@ -1,5 +1,5 @@
 -- What a row's monitor says below cycle n depends only on the row's own activators, its operands' and the signal that it names, all
--- below n (output-local), and so does what it hands on (state-local). Assumes nothing.
+-- below n (output-local, pending-local). Assumes nothing.
 use Prim.Native.Nat.{ℕ, zero, suc, ◌≤◌, ◌<◌}
 use mathlib.Core.Path.{◌≡◌, refl, ap, ap₂, ◌∙◌}
 use mathlib.Core.Bool.{Bool}
@@ -12,8 +12,7 @@ use Rattle.meaning.specs.Rows.{Each, EachSignal}
 use Rattle.meaning.proofs.Rows.{each_map}
 use Rattle.monitors.specs.declared.RowState.{RowState}
 use Rattle.monitors.specs.Monitor.{signal_monitor, unary_monitor, binary_monitor, monitor}
-use Rattle.monitors.specs.Along.{Activators, state_before, output}
-use Rattle.monitors.proofs.States.{SameState}
+use Rattle.monitors.specs.Along.{Activators, state_before, pending_before, output}
 
 monitor_local :
     (act act' signals signals' : ℕ → Bool) (r : Row) (s : RowState) → Each (λ a. act a ≡ act' a) r → EachSignal (λ n. signals n ≡ signals' n) r
@@ -26,25 +25,16 @@ monitor_local act act' signals signals' (Binary c a b) s e g = ap₂ (λ x y. bi
 -- a set P of rows that has the operands of its rows
 module _ (t : Table) (P : ℕ → Type 0) (closed : (k : ℕ) → P k → Each P (t k)) (w w' : InfiniteTrace) (act act' : Activators) (n : ℕ)
     (same_signals : (i : ℕ) → i < n → (k : ℕ) → P k → EachSignal (λ s. w i s ≡ w' i s) (t k))
-    (same_activators : (i : ℕ) → i < n → (k : ℕ) → P k → act i k ≡ act' i k) where
-  step :
-      (i : ℕ) → i < n → SameState P (state_before t w act i) (state_before t w' act' i) → (k : ℕ) → P k
-      → output t w act i k ≡ output t w' act' i k
-  step i l same k h =
-      monitor_local (act i) (act' i) (w i) (w' i) (t k) _ (each_map _ _ (same_activators i l) (t k) (closed k h)) (same_signals i l k h)
-      ∙ ap (monitor (act' i) (w' i) (t k)) (λ j. record {
-        active = same_activators i l k h j;
-        pending = same.same_pending k h j;
-        memory = same.same_memory k h j;
-        initial = same.same_initial j;
-      })
+    (same_activators : (i : ℕ) → i < n → (k : ℕ) → P k → act i k ≡ act' i k) (k : ℕ) (in-set : P k) where
+  step : (i : ℕ) → i < n → pending_before t w act i k ≡ pending_before t w' act' i k → output t w act i k ≡ output t w' act' i k
+  step i l e =
+      monitor_local (act i) (act' i) (w i) (w' i) (t k) _ (each_map _ _ (same_activators i l) (t k) (closed k in-set)) (same_signals i l k in-set)
+      ∙ ap₂ (λ z y. monitor (act' i) (w' i) (t k) (record { active = z; pending = y })) (same_activators i l k in-set) e
 
-  pub state_local : (i : ℕ) → i ≤ n → SameState P (state_before t w act i) (state_before t w' act' i)
+  pub pending_local : (i : ℕ) → i ≤ n → pending_before t w act i k ≡ pending_before t w' act' i k
   unfolding state_before
-  state_local zero l = record { same_pending = λ k h. refl; same_memory = λ k h. refl; same_initial = refl }
-  state_local (suc i) l =
-      let said = step i l (state_local i (omega arith)) in
-      record { same_pending = λ k h. ap (λ o. o.pending) (said k h); same_memory = λ k h. ap (λ o. o.memory) (said k h); same_initial = refl }
+  pending_local zero l = refl
+  pending_local (suc i) l = ap (λ o. o.pending) (step i l (pending_local i (omega arith)))
 
-  pub output_local : (k : ℕ) → P k → (i : ℕ) → i < n → output t w act i k ≡ output t w' act' i k
-  output_local k h i l = step i l (state_local i (omega arith)) k h
+  pub output_local : (i : ℕ) → i < n → output t w act i k ≡ output t w' act' i k
+  output_local i l = step i l (pending_local i (omega arith))

@@ -6,14 +6,13 @@ use mathlib.Core.Logic.{◌⊎◌, inl, inr}
 use mathlib.Core.Bool.{Bool, true, false, not, ◌&&◌, ◌||◌}
 use native.Mathlib.Omega.{arith}
 use Rattle.tables.specs.declared.row.UnaryKind.{UnaryKind}
-use Rattle.tables.specs.declared.row.UnaryKind.TheVariants.{Not, Next, Always, Ever, Before, Wbefore, Once, Sofar}
+use Rattle.tables.specs.declared.row.UnaryKind.TheVariants.{Not, Next, Always, Ever}
 use Rattle.tables.specs.declared.row.Row.{Row}
 use Rattle.tables.specs.declared.row.Row.TheVariants.{Constant, Signal, Unary, Binary}
 use Rattle.meaning.specs.Trace.{InfiniteTrace}
 use Rattle.meaning.specs.Satisfaction.{Table}
 use Rattle.meaning.specs.Rows.{Each, positive, Positive}
-use Rattle.meaning.specs.Pattern.{Pattern, Pattern.now, Pattern.next, Pattern.connective, Pattern.previous, Pattern.temporal, Pattern.past}
-use Rattle.meaning.specs.Nesting.{delay}
+use Rattle.meaning.specs.Pattern.{Pattern, Pattern.now, Pattern.next, Pattern.connective, Pattern.temporal}
 use Rattle.meaning.specs.Pattern.{unary_left, unary_pattern, binary_pattern, left, right, pattern_of, keep_bit, goal_bit, keep_bits, goal_bits, signed_bit, operand_bits}
 use Rattle.meaning.proofs.Readings.{On, on_and_off, on_or_off}
 use Rattle.meaning.proofs.Rows.{each_map}
@@ -22,11 +21,9 @@ use Rattle.meaning.proofs.Streams.{expand_cases, approximant_is, approximant_exp
 use Rattle.meaning.proofs.PatternBits.{pattern_bit, row_bit}
 use Rattle.meaning.proofs.Evaluation.{Evaluation, operands_periodic}
 use Rattle.monitors.specs.declared.Output.{Output}
-use Rattle.monitors.specs.declared.RowState.{RowState}
 use Rattle.monitors.specs.Along.{state_before, pending_before, output}
-use Rattle.monitors.proofs.ByPattern.{done_bit, need_bit}
-use Rattle.monitors.proofs.Recall.{said_by, Kept, back_failed}
-use Rattle.monitors.proofs.Soundness.{pattern_output, output_by_pattern, states_of, row_kept, handed_on_lem}
+use Rattle.monitors.proofs.ByPattern.{done_bit, need_bit, pattern_monitor}
+use Rattle.monitors.proofs.Soundness.{pattern_output, output_by_pattern, handed_on}
 
 -- ---- Bools
 
@@ -80,16 +77,12 @@ module _ (a b : ℕ → Bool) (c : ℕ) where
   Ends now = Unit {0}
   Ends next = OffFrom b
   Ends (connective f) = Unit {0}
-  Ends (previous w) = Unit {0}
   Ends (temporal f w) = OffFrom b × (On w → ¬ On (keep_bit f (a c) (b c)))
-  Ends (past f w) = Unit {0}
 
   ends : OffFrom a → OffFrom b → (p : Pattern) → Ends p
   ends oa ob now = tt
   ends oa ob next = ob
   ends oa ob (connective f) = tt
-  ends oa ob (previous w) = tt
-  ends oa ob (past f w) = tt
   ends oa ob (temporal true w) = (ob, λ _ x. on_and_off x (oa c (omega arith)))
   ends oa ob (temporal false w) = (ob, λ _ x. on_and_off x (ob c (omega arith)))
 
@@ -100,27 +93,17 @@ unary_ends b c ob Not o = on_and_off o refl
 unary_ends b c ob Next o = ob
 unary_ends b c ob Always o = (ob, λ _ x. on_and_off x (ob c (omega arith)))
 unary_ends b c ob Ever o = (ob, λ x. on_and_off x refl)
-unary_ends b c ob Before o = tt
-unary_ends b c ob Wbefore o = tt
-unary_ends b c ob Once o = tt
-unary_ends b c ob Sofar o = tt
 
--- ---- one pattern: a and b are the operands' bits, s the row's states by cycle
+-- ---- one pattern: a and b are the operands' bits, z the row's activator, y its pendings
 
 module _ (N start : ℕ) (N>0 : 0 < N) (depth : ℕ → ℕ) (enough : (i : ℕ) → (start - i) + N ≤ depth i) (a b : ℕ → Bool)
-    (pa : Periodic N start a) (pb : Periodic N start b) (s : ℕ → RowState) where
+    (pa : Periodic N start a) (pb : Periodic N start b) (z y : ℕ → Bool) (fresh : y 0 ≡ false) where
   abbrev says : Pattern → ℕ → Output
-  says p j = said_by a b s p j
+  says p j = pattern_monitor (a j) (b j) (record { active = z j; pending = y j }) p
 
-  abbrev z : ℕ → Bool
-  z j = (s j).active
-
-  abbrev y : ℕ → Bool
-  y j = (s j).pending
-
-  -- the state is handed on, and the row is active only where its bit is 1
+  -- pendings are handed on, and the row is active only where its bit is 1
   record Makes (p : Pattern) : Type 0 where
-    kept : Kept a b s p
+    hands : (j : ℕ) → y (suc j) ≡ (says p j).pending
     bit : (j : ℕ) → On (z j) → On (pattern_bit depth a b p j)
 
   -- what is due in a cycle before which the row is pending
@@ -128,9 +111,7 @@ module _ (N start : ℕ) (N>0 : 0 < N) (depth : ℕ → ℕ) (enough : (i : ℕ)
   Due now i = ⊥
   Due next i = On (b i)
   Due (connective f) i = ⊥
-  Due (previous w) i = ⊥
   Due (temporal f w) i = On (pattern_bit depth a b (temporal f w) i)
-  Due (past f w) i = ⊥
 
   module _ (f w : Bool) where
     abbrev due_bit : ℕ → Bool
@@ -175,35 +156,26 @@ module _ (N start : ℕ) (N>0 : 0 < N) (depth : ℕ → ℕ) (enough : (i : ℕ)
   due_next now h i d e = on_and_off e refl
   due_next next h i d e = h.bit i e
   due_next (connective f) h i d e = on_and_off e refl
-  due_next (previous w) h i d e = on_and_off e refl
   due_next (temporal f true) h i d e =
       let g = and_not (z i || y i) _ e in due_later f true i (due_where_goes f true i (h.bit i) d g.0) g.1
   due_next (temporal f false) h i d e =
       let g = and_not (z i || y i) _ e in due_later f false i (due_where_goes f false i (h.bit i) d g.0) g.1
-  due_next (past f w) h i d e = on_and_off e refl
 
   due : (p : Pattern) → Makes p → (i : ℕ) → On (y i) → Due p i
-  due p h zero e = on_and_off e h.kept.fresh
-  due p h (suc i) e = due_next p h i (due p h i) (sym (h.kept.pendings i) ∙ e)
-
-  looks_back_lem : (p : Pattern) → delay p ≡ 1 → Makes p → (i : ℕ) → (says p i).failed ≡ false
-  looks_back_lem p d h i = back_failed a b s depth p d h.kept i ∙ no_fail _ _ (h.bit i)
+  due p h zero e = on_and_off e fresh
+  due p h (suc i) e = due_next p h i (due p h i) (sym (h.hands i) ∙ e)
 
   never_fails : (p : Pattern) → Makes p → (i : ℕ) → (says p i).failed ≡ false
   never_fails now h i = no_fail _ _ (h.bit i)
   never_fails next h i = no_fail _ _ (due next h i)
   never_fails (connective f) h i = no_fail _ _ (h.bit i)
-  never_fails (previous w) h i = looks_back_lem (previous w) refl h i
   never_fails (temporal f true) h i = no_fail _ _ (λ g. has_need f true i (due_where_goes f true i (h.bit i) (due (temporal f true) h i) g))
   never_fails (temporal f false) h i = no_fail _ _ (λ g. has_need f false i (due_where_goes f false i (h.bit i) (due (temporal f false) h i) g))
-  never_fails (past f w) h i = looks_back_lem (past f w) refl h i
 
   accepts : (p : Pattern) → Makes p → (i : ℕ) → (j : ℕ) × (i ≤ j) × On (says p j).accept
   accepts now h i = (i, omega arith, refl)
   accepts next h i = (i, omega arith, refl)
   accepts (connective f) h i = (i, omega arith, refl)
-  accepts (previous w) h i = (i, omega arith, refl)
-  accepts (past f w) h i = (i, omega arith, refl)
   accepts (temporal f true) h i = (i, omega arith, refl)
   accepts (temporal f false) h i = by (on_or_off (z i || y i))
     where
@@ -233,8 +205,6 @@ module _ (N start : ℕ) (N>0 : 0 < N) (depth : ℕ → ℕ) (enough : (i : ℕ)
       none now q d = d
       none next q d = on_and_off d (q c (omega arith))
       none (connective f) q d = d
-      none (previous w) q d = d
-      none (past f w) q d = d
       none (temporal f w) q d = never (met f w c d)
         where
           never : Reached (keep_bits f a b) (goal_bits f a b) c ⊎ (On w × KeptForever (keep_bits f a b) (goal_bits f a b) c) → ⊥
@@ -254,8 +224,8 @@ module _ (live : ℕ → Bool) (w : InfiniteTrace) (t : Table) (m : ℕ) (bits :
   abbrev act : ℕ → ℕ → Bool
   act i a = bits a i
 
-  abbrev states : ℕ → RowState
-  states = states_of t m w act (state_before t w act) k
+  abbrev pending : ℕ → Bool
+  pending i = pending_before t w act i k
 
   operands : Periodic period (start k) (operand_bits w bits (left (t k))) × Periodic period (start k) (operand_bits w bits (right (t k)))
   operands = operands_periodic live w t m bits e k k<m
@@ -263,26 +233,25 @@ module _ (live : ℕ → Bool) (w : InfiniteTrace) (t : Table) (m : ℕ) (bits :
   said : (i : ℕ) → output t w act i k ≡ pattern_output t w act (state_before t w act) i k
   said = output_by_pattern t w act (state_before t w act) k (positive k k<m)
 
-  makes :
-      Makes period (start k) e.period>0 depth (e.enough k k<m) (operand_bits w bits (left (t k))) (operand_bits w bits (right (t k)))
-      operands.0 operands.1 states (pattern_of (t k))
+  makes : Makes period (start k) e.period>0 depth (e.enough k k<m) (operand_bits w bits (left (t k))) (operand_bits w bits (right (t k))) operands.0 operands.1
+      (bits k) pending ((handed_on t m w act).fresh.same_pending k k<m) (pattern_of (t k))
   makes = record {
-    kept = row_kept t m w act (state_before t w act) k k<m (positive k k<m) (handed_on_lem t m w act);
+    hands = λ i. ((handed_on t m w act).next i).same_pending k k<m ∙ ap (λ o. o.pending) (said i);
     bit = λ i on. and_right (live i) _ (sym (e.computes k k<m i) ∙ on);
   }
 
   pub bits_never_fail : (i : ℕ) → (output t w act i k).failed ≡ false
   bits_never_fail i = ap (λ o. o.failed) (said i)
-      ∙ never_fails period (start k) e.period>0 depth (e.enough k k<m) _ _ operands.0 operands.1 states (pattern_of (t k)) makes i
+      ∙ never_fails period (start k) e.period>0 depth (e.enough k k<m) _ _ operands.0 operands.1 (bits k) pending ((handed_on t m w act).fresh.same_pending k k<m) (pattern_of (t k)) makes i
 
   pub bits_accept : (i : ℕ) → (j : ℕ) × (i ≤ j) × On (output t w act j k).accept
   bits_accept i =
-      let r = accepts period (start k) e.period>0 depth (e.enough k k<m) _ _ operands.0 operands.1 states (pattern_of (t k)) makes i in
+      let r = accepts period (start k) e.period>0 depth (e.enough k k<m) _ _ operands.0 operands.1 (bits k) pending ((handed_on t m w act).fresh.same_pending k k<m) (pattern_of (t k)) makes i in
       (r.0, r.1, ap (λ o. o.accept) (said r.0) ∙ r.2)
 
   -- no cycle from c on is live
   pub bits_not_pending : (c : ℕ) → ((j : ℕ) → c ≤ j → live j ≡ false) → pending_before t w act c k ≡ false
-  bits_not_pending c off = not_pending period (start k) e.period>0 depth (e.enough k k<m) _ _ operands.0 operands.1 states
+  bits_not_pending c off = not_pending period (start k) e.period>0 depth (e.enough k k<m) _ _ operands.0 operands.1 (bits k) pending ((handed_on t m w act).fresh.same_pending k k<m)
       c (pattern_of (t k)) (row_ends (t k) (positive k k<m) (each_map _ _ (λ a l j x. e.computes a (omega arith) j ∙ ap (λ b. b && row_bit w depth bits (t a) j) (off j x)) (t k) (e.ordered k k<m))) makes
     where
       row_ends : (r : Row) → Positive r → Each (λ a. (j : ℕ) → c ≤ j → bits a j ≡ false) r → Ends (operand_bits w bits (left r)) (operand_bits w bits (right r)) c (pattern_of r)

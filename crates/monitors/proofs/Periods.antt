@@ -1,29 +1,25 @@
 -- Along a lasso of n cycles with its loop at l, what a monitor says repeats from cycle n on after n - l cycles (lasso-output-periodic):
--- its pending is carried by monotone steps, and so is what it recalls. So n + (n - l) cycles decide whether it ever fails
--- (lasso-never-fails), and the last n - l of them whether it accepts infinitely often (lasso-accepts, lasso-starves). For any table, sheet
--- and row. Assumes nothing.
+-- a pending is carried by monotone steps. So n + (n - l) cycles decide whether it ever fails (lasso-never-fails), and the last n - l
+-- of them whether it accepts infinitely often (lasso-accepts, lasso-starves). For any table, sheet and row. Assumes nothing.
 use Prim.Native.Nat.{ℕ, zero, suc, ◌+◌, ◌-◌, ◌≤◌, ◌<◌, zero-le}
-use mathlib.Core.Path.{◌≡◌, refl, subst, sym, ap, ap₂, ◌∙◌}
+use mathlib.Core.Path.{◌≡◌, refl, subst, sym, ap, ◌∙◌}
 use mathlib.Core.Logic.{◌⊎◌, inl, inr}
 use mathlib.Core.Bool.{Bool, true, false, ◌&&◌, ◌||◌}
 use native.Mathlib.Omega.{arith}
+use Rattle.tables.specs.declared.row.Row.{Row}
 use Rattle.meaning.specs.Reading.{classical, Some}
 use Rattle.meaning.specs.Operator.{During}
 use Rattle.meaning.specs.Trace.{InfiniteTrace, position}
 use Rattle.meaning.specs.Satisfaction.{Table}
-use Rattle.meaning.specs.Pattern.{Pattern, Pattern.now, Pattern.next, Pattern.connective, Pattern.previous, Pattern.temporal, Pattern.past}
-use Rattle.meaning.specs.Pattern.{pattern_of, keep_bit, goal_bit}
-use Rattle.meaning.proofs.Readings.{lt_or_le, induction_from, sum_map, On, on_and_off}
+use Rattle.meaning.specs.Pattern.{Pattern, Pattern.now, Pattern.next, Pattern.connective, Pattern.temporal}
+use Rattle.meaning.proofs.Readings.{lt_or_le, induction_from, On, on_and_off}
 use Rattle.meaning.proofs.Periodic.{Periodic, position_periodic}
-use Rattle.meaning.proofs.Streams.{expand_cases, expand_on}
 use Rattle.meaning.proofs.Carry.{carried}
 use Rattle.meaning.proofs.Lasso.{lasso}
 use Rattle.monitors.specs.declared.Output.{Output}
-use Rattle.monitors.specs.declared.RowState.{RowState}
-use Rattle.monitors.specs.Monitor.{recalls, first_of, second_of}
-use Rattle.monitors.specs.State.{row_state}
+use Rattle.monitors.specs.Monitor.{first_of, second_of, monitor}
 use Rattle.monitors.specs.Along.{Activators, state_before, pending_before, output}
-use Rattle.monitors.proofs.ByPattern.{pattern_monitor, left_bit, right_bit, row_by_pattern}
+use Rattle.monitors.proofs.ByPattern.{pattern_monitor, each_pattern}
 use Rattle.monitors.proofs.Sheets.{lasso_output}
 
 -- ---- what repeats from cycle b on after N cycles
@@ -48,134 +44,48 @@ module _ {A : Type 0} (N b : ℕ) (N>0 : 0 < N) (x : ℕ → A) (periodic : Peri
   comes_back i l h (suc c) =
       let f = comes_back i l h c in (f.0 + N, omega arith, omega arith, subst P (sym (periodic f.0 f.2)) f.3)
 
--- ---- one pattern: pending and memory are each monotone in the one before, and read nothing else of the state
+-- ---- a pending is monotone in the one before
 
 grows : (d z x y : Bool) → (On x → On y) → On ((z || x) && d) → On ((z || y) && d)
 grows d true x y f e = e
 grows d false true y f e = subst (λ v. On (v && d)) (sym (f refl)) e
 grows d false false y f e = on_and_off e refl
 
--- a row's state behind the first cycle: there its memory is read
-abbrev later : Bool → Bool → Bool → RowState
-later z y m = record { active = z; pending = y; memory = m; initial = false }
+module _ (z x y : Bool) (f : On x → On y) where
+  pattern_grows :
+      (l r : Bool) (p : Pattern) → On (pattern_monitor l r (record { active = z; pending = x }) p).pending
+      → On (pattern_monitor l r (record { active = z; pending = y }) p).pending
+  pattern_grows l r now e = e
+  pattern_grows l r next e = e
+  pattern_grows l r (connective g) e = e
+  pattern_grows l r (temporal g true) e = grows _ z x y f e
+  pattern_grows l r (temporal g false) e = grows _ z x y f e
 
--- what holds before the first cycle
-abbrev before : Pattern → Bool
-before now = false
-before next = false
-before (connective f) = false
-before (previous w) = w
-before (temporal f w) = false
-before (past f w) = w
-
-module _ (l r : Bool) where
-  abbrev says : RowState → Pattern → Output
-  says s p = pattern_monitor l r s p
-
-  -- in any cycle, the first one too, the row goes by what it recalls
-  by_recall : (s : RowState) (p : Pattern) → says s p ≡ says (later s.active s.pending (recalls (before p) s)) p
-  by_recall s now = refl
-  by_recall s next = refl
-  by_recall s (connective f) = refl
-  by_recall s (previous w) = refl
-  by_recall s (temporal f true) = refl
-  by_recall s (temporal f false) = refl
-  by_recall s (past f w) = refl
-
-  pending_alone : (z y m m' : Bool) (p : Pattern) → (says (later z y m) p).pending ≡ (says (later z y m') p).pending
-  pending_alone z y m m' now = refl
-  pending_alone z y m m' next = refl
-  pending_alone z y m m' (connective f) = refl
-  pending_alone z y m m' (previous w) = refl
-  pending_alone z y m m' (temporal f true) = refl
-  pending_alone z y m m' (temporal f false) = refl
-  pending_alone z y m m' (past f w) = refl
-
-  memory_alone : (z y y' m : Bool) (p : Pattern) → (says (later z y m) p).memory ≡ (says (later z y' m) p).memory
-  memory_alone z y y' m now = refl
-  memory_alone z y y' m next = refl
-  memory_alone z y y' m (connective f) = refl
-  memory_alone z y y' m (previous w) = refl
-  memory_alone z y y' m (temporal f true) = refl
-  memory_alone z y y' m (temporal f false) = refl
-  memory_alone z y y' m (past f w) = refl
-
-  module _ (z x y : Bool) (f : On x → On y) where
-    pending_grows : (m : Bool) (p : Pattern) → On (says (later z x m) p).pending → On (says (later z y m) p).pending
-    pending_grows m now e = e
-    pending_grows m next e = e
-    pending_grows m (connective g) e = e
-    pending_grows m (previous w) e = e
-    pending_grows m (temporal g true) e = grows _ z x y f e
-    pending_grows m (temporal g false) e = grows _ z x y f e
-    pending_grows m (past g w) e = e
-
-    memory_grows : (p : Pattern) → On (says (later z false x) p).memory → On (says (later z false y) p).memory
-    memory_grows now e = e
-    memory_grows next e = e
-    memory_grows (connective g) e = e
-    memory_grows (previous w) e = e
-    memory_grows (temporal g true) e = e
-    memory_grows (temporal g false) e = e
-    memory_grows (past g w) e = expand_on (keep_bit g l r) (goal_bit g l r) y (sum_map (λ h. h) (λ h. (h.0, f h.1)) (expand_cases (keep_bit g l r) (goal_bit g l r) x e))
+  pending_grows :
+      (act signals : ℕ → Bool) (r : Row) → On (monitor act signals r (record { active = z; pending = x })).pending
+      → On (monitor act signals r (record { active = z; pending = y })).pending
+  pending_grows act signals r =
+      each_pattern (λ m. On (m (record { active = z; pending = x })).pending → On (m (record { active = z; pending = y })).pending)
+      pattern_grows r (first_of act signals r) (second_of act r)
 
 -- ---- where signals and activators are periodic from b on, outputs are one round later
 
 module _ (N b : ℕ) (t : Table) (w : InfiniteTrace) (act : Activators) (signals : Periodic N b w) (activators : Periodic N b act) (k : ℕ) where
-  abbrev pattern : Pattern
-  pattern = pattern_of (t k)
+  says : ℕ → Bool → Output
+  says i y = monitor (act i) (w i) (t k) (record { active = act i k; pending = y })
 
-  -- what the row reads in cycle i, by its pattern
-  abbrev lefts : ℕ → Bool
-  lefts i = left_bit (t k) (first_of (act i) (w i) (t k))
+  says_periodic : (i : ℕ) → b ≤ i → (y : Bool) → says (i + N) y ≡ says i y
+  unfolding says
+  says_periodic i h y = λ j. monitor (activators i h j) (signals i h j) (t k) (record { active = activators i h j k; pending = y })
 
-  abbrev rights : ℕ → Bool
-  rights i = right_bit (t k) (first_of (act i) (w i) (t k)) (second_of (act i) (t k))
-
-  -- what it says in cycle i from a pending and what it recalls
-  said_from : ℕ → Bool → Bool → Output
-  said_from i y m = pattern_monitor (lefts i) (rights i) (later (act i k) y m) pattern
-
-  said_periodic : (i : ℕ) → b ≤ i → (y m : Bool) → said_from (i + N) y m ≡ said_from i y m
-  unfolding said_from
-  said_periodic i h y m = λ j.
-      let a = activators i h j in
-      let first = first_of a (signals i h j) (t k) in
-      pattern_monitor (left_bit (t k) first) (right_bit (t k) first (second_of a (t k))) (later (a k) y m) pattern
-
-  pending : ℕ → Bool
-  pending i = pending_before t w act i k
-
-  recalled : ℕ → Bool
-  recalled i = recalls (before pattern) (row_state (act i) (state_before t w act i) k)
-
-  said : (i : ℕ) → output t w act i k ≡ said_from i (pending i) (recalled i)
-  unfolding said_from pending recalled
-  said i =
-      row_by_pattern (t k) (first_of (act i) (w i) (t k)) (second_of (act i) (t k)) (row_state (act i) (state_before t w act i) k)
-      ∙ by_recall (lefts i) (rights i) (row_state (act i) (state_before t w act i) k) pattern
-
-  pending_step : (i : ℕ) → pending (suc i) ≡ (said_from i (pending i) false).pending
-  unfolding state_before pending said_from
-  pending_step i = ap (λ o. o.pending) (said i) ∙ pending_alone (lefts i) (rights i) (act i k) (pending i) (recalled i) false pattern
-
-  recalled_step : (i : ℕ) → recalled (suc i) ≡ (said_from i false (recalled i)).memory
-  unfolding state_before recalled said_from
-  recalled_step i = ap (λ o. o.memory) (said i) ∙ memory_alone (lefts i) (rights i) (act i k) (pending i) false (recalled i) pattern
-
-  pending_periodic : Periodic N (b + N) pending
-  unfolding said_from
-  pending_periodic = carried N b (λ i y. (said_from i y false).pending) (λ i x y f. pending_grows (lefts i) (rights i) (act i k) x y f false pattern)
-      (λ i h y. ap (λ o. o.pending) (said_periodic i h y false)) pending pending_step
-
-  recalled_periodic : Periodic N (b + N) recalled
-  unfolding said_from
-  recalled_periodic = carried N b (λ i m. (said_from i false m).memory) (λ i x y f. memory_grows (lefts i) (rights i) (act i k) x y f pattern)
-      (λ i h m. ap (λ o. o.memory) (said_periodic i h false m)) recalled recalled_step
+  pending_periodic : Periodic N (b + N) (λ i. pending_before t w act i k)
+  unfolding state_before says
+  pending_periodic = carried N b (λ i y. (says i y).pending) (λ i x y f. pending_grows (act i k) x y f (act i) (w i) (t k))
+      (λ i h y. ap (λ o. o.pending) (says_periodic i h y)) (λ i. pending_before t w act i k) (λ i. refl)
 
   pub output_periodic : Periodic N (b + N) (λ i. output t w act i k)
-  output_periodic i h =
-      said (i + N) ∙ (said_periodic i (omega arith) _ _ ∙ (ap₂ (said_from i) (pending_periodic i h) (recalled_periodic i h) ∙ sym (said i)))
+  unfolding says
+  output_periodic i h = says_periodic i (omega arith) _ ∙ ap (says i) (pending_periodic i h)
 
 -- ---- along a lasso
 

@@ -15,7 +15,7 @@ use Rattle.meaning.specs.Satisfaction.{Table, RowTrue}
 use Rattle.meaning.specs.Strong.{RowStronglyTrue}
 use Rattle.meaning.specs.Rows.{Each, EachSignal, Ordered, Positive}
 use Rattle.meaning.specs.Covers.{Covers}
-use Rattle.meaning.specs.Pattern.{Pattern, Pattern.now, Pattern.next, Pattern.connective, Pattern.previous, Pattern.temporal, Pattern.past, left, right, pattern_of, operand_bits}
+use Rattle.meaning.specs.Pattern.{Pattern, Pattern.now, Pattern.next, Pattern.connective, Pattern.temporal, left, right, pattern_of, operand_bits}
 use Rattle.meaning.proofs.Readings.{lt_or_le, On, on_and_off, bools_equal, classical_full}
 use Rattle.meaning.proofs.Rows.{each_map, each_signal}
 use Rattle.meaning.proofs.Truth.{every_cycle}
@@ -26,7 +26,7 @@ use Rattle.meaning.proofs.Lasso.{two_rounds, lasso, ComputesLasso, lasso_evaluat
 use Rattle.meaning.proofs.StrongTruth.{cycles_below, Inside, strong_interprets}
 use Rattle.meaning.proofs.Prefix.{prefix, to_end, prefix_same, prefix_evaluation, prefix_truth, prefix_readings}
 use Rattle.monitors.specs.declared.Output.{Output}
-use Rattle.monitors.specs.Along.{Activators, state_before, pending_before, memory_before, output}
+use Rattle.monitors.specs.Along.{Activators, state_before, pending_before, output}
 use Rattle.monitors.proofs.ByPattern.{pattern_monitor}
 use Rattle.monitors.proofs.Soundness.{output_by_pattern, Unfailing, along_active_true, along_active_row_true}
 use Rattle.monitors.proofs.Made.{bits_never_fail, bits_accept, bits_not_pending}
@@ -97,16 +97,14 @@ abbrev Rests : Output → Type 0
 Rests o = (o.pending ≡ false) × (o.failed ≡ false) × On o.accept
 
 -- what is neither active nor pending rests
-rests : (p : Pattern) (a b z y m e : Bool) → z ≡ false → y ≡ false → Rests (pattern_monitor a b (record { active = z; pending = y; memory = m; initial = e }) p)
-rests p a b true y m e off none = on_and_off refl off
-rests p a b false true m e off none = on_and_off refl none
-rests now a b false false m e off none = (refl, refl, refl)
-rests next a b false false m e off none = (refl, refl, refl)
-rests (connective g) a b false false m e off none = (refl, refl, refl)
-rests (previous v) a b false false m e off none = (refl, refl, refl)
-rests (temporal g true) a b false false m e off none = (refl, refl, refl)
-rests (temporal g false) a b false false m e off none = (refl, refl, refl)
-rests (past g v) a b false false m e off none = (refl, refl, refl)
+rests : (p : Pattern) (a b z y : Bool) → z ≡ false → y ≡ false → Rests (pattern_monitor a b (record { active = z; pending = y }) p)
+rests p a b true y e f = on_and_off refl e
+rests p a b false true e f = on_and_off refl f
+rests now a b false false e f = (refl, refl, refl)
+rests next a b false false e f = (refl, refl, refl)
+rests (connective g) a b false false e f = (refl, refl, refl)
+rests (temporal g true) a b false false e f = (refl, refl, refl)
+rests (temporal g false) a b false false e f = (refl, refl, refl)
 
 and_left : (x y : Bool) → On (x && y) → On x
 and_left true y e = refl
@@ -151,8 +149,7 @@ module _ (n : ℕ) (w : InfiniteTrace) (t : Table) where
     module _ (sheet : Activators) (passes : PassesPrefix m root sheet) where
       rest : (k : ℕ) → k < m → (i : ℕ) → n ≤ i → pending_before t (prefix n w) (cut sheet) i k ≡ false → Rests (output t (prefix n w) (cut sheet) i k)
       rest k h i l e = subst⁻¹ Rests (output_by_pattern t (prefix n w) (cut sheet) (state_before t (prefix n w) (cut sheet)) k (positive k h) i)
-          (rests (pattern_of (t k)) (operand_bits (prefix n w) (λ a j. cut sheet j a) (left (t k)) i) (operand_bits (prefix n w) (λ a j. cut sheet j a) (right (t k)) i)
-          _ _ (memory_before t (prefix n w) (cut sheet) i k) (state_before t (prefix n w) (cut sheet) i).initial (ap (λ b. b && sheet i k) (le-ltb i n l)) e)
+          (rests (pattern_of (t k)) (operand_bits (prefix n w) (λ a j. cut sheet j a) (left (t k)) i) (operand_bits (prefix n w) (λ a j. cut sheet j a) (right (t k)) i) _ _ (ap (λ b. b && sheet i k) (le-ltb i n l)) e)
 
       still : (k : ℕ) → k < m → (i : ℕ) → n ≤ i → pending_before t (prefix n w) (cut sheet) i k ≡ false
       unfolding state_before

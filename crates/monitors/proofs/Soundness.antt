@@ -12,9 +12,8 @@ use Rattle.meaning.specs.Operator.{During, Until}
 use Rattle.meaning.specs.Trace.{InfiniteTrace}
 use Rattle.meaning.specs.Satisfaction.{Table, RowTrue}
 use Rattle.meaning.specs.Rows.{Ordered, Positive}
-use Rattle.meaning.specs.Pattern.{Pattern, Pattern.now, Pattern.next, Pattern.connective, Pattern.previous, Pattern.temporal, Pattern.past}
+use Rattle.meaning.specs.Pattern.{Pattern, Pattern.now, Pattern.next, Pattern.connective, Pattern.temporal}
 use Rattle.meaning.specs.Pattern.{left, right, pattern_of, keep_bit, goal_bit, connective_bit, operand_bits}
-use Rattle.meaning.specs.Nesting.{delay}
 use Rattle.meaning.proofs.Readings.{iff_refl, induction_from, row_induction, On, on_and_off, Full}
 use Rattle.meaning.proofs.Rows.{each_map}
 use Rattle.meaning.proofs.Truth.{Interprets, every_cycle, truth_interprets}
@@ -22,13 +21,11 @@ use Rattle.meaning.proofs.Pattern.{Keeps, Goals, Holds, OperandTrue, both_positi
 use Rattle.meaning.proofs.MeaningByPattern.{holds_map, interprets_pattern}
 use Rattle.meaning.proofs.PatternBits.{keep_iff, goal_iff, connective_iff, signal_iff}
 use Rattle.monitors.specs.declared.Output.{Output}
-use Rattle.monitors.specs.declared.RowState.{RowState}
-use Rattle.monitors.specs.Monitor.{goes, monitor}
+use Rattle.monitors.specs.Monitor.{monitor}
 use Rattle.monitors.specs.State.{State, fresh_state, row_state, output_from, next_state}
 use Rattle.monitors.specs.Along.{Activators, state_before}
-use Rattle.monitors.proofs.States.{SameState, same_row}
+use Rattle.monitors.proofs.States.{SameState}
 use Rattle.monitors.proofs.ByPattern.{done_bit, need_bit, pattern_monitor, monitor_by_pattern}
-use Rattle.monitors.proofs.Recall.{said_by, Kept, back_failed, back_iff}
 
 -- ---- Bools
 
@@ -62,68 +59,58 @@ not_off : (a : Bool) → On a → not a ≡ false
 not_off true e = refl
 not_off false e = on_and_off e refl
 
--- ---- one pattern: a and b are the operands' activators, s the row's states by cycle
+-- ---- one pattern: a and b are the operands' activators, z the row's own, y its pendings
 
-module _ (R : Reading) (full : Full R) (a b : ℕ → Bool) (s : ℕ → RowState) where
+module _ (R : Reading) (full : Full R) (a b z y : ℕ → Bool) where
   abbrev A : ℕ → Type 0
   A j = On (a j)
 
   abbrev B : ℕ → Type 0
   B j = On (b j)
 
+  abbrev says : Pattern → ℕ → Output
+  says p j = pattern_monitor (a j) (b j) (record { active = z j; pending = y j }) p
+
   record Passes (p : Pattern) : Type 0 where
-    kept : Kept a b s p
-    none_fails : (j : ℕ) → (said_by a b s p j).failed ≡ false
-    none_starves : (i : ℕ) → ¬ ((j : ℕ) → i ≤ j → (said_by a b s p j).accept ≡ false)
+    hands : (j : ℕ) → y (suc j) ≡ (says p j).pending
+    none_fails : (j : ℕ) → (says p j).failed ≡ false
+    none_starves : (i : ℕ) → ¬ ((j : ℕ) → i ≤ j → (says p j).accept ≡ false)
 
   -- active, and the goal never met: it keeps and is pending for ever
   waits_forever :
-      (K G : ℕ → Type 0) → ((j : ℕ) → On (goes (s j)) → G j ⊎ (K j × On (s (suc j)).pending)) → (i : ℕ) → On (s i).active → ¬ Until R K G i
-      → (j : ℕ) → i ≤ j → K j × On (s (suc j)).pending
-  waits_forever K G step i on never =
-      induction_from (λ j. K j × On (s (suc j)).pending) i (λ j l d. by j l d (step j (going j (eq-or-lt_of_le l) d)))
+      (K G : ℕ → Type 0) → ((j : ℕ) → On (z j || y j) → G j ⊎ (K j × On (y (suc j)))) → (i : ℕ) → On (z i) → ¬ Until R K G i → (j : ℕ)
+      → i ≤ j → K j × On (y (suc j))
+  waits_forever K G step i on never = induction_from (λ j. K j × On (y (suc j))) i (λ j l d. by j l d (step j (goes j (eq-or-lt_of_le l) d)))
     where
-      going : (j : ℕ) → (i ≡ j) ⊎ (i < j) → During (λ j. K j × On (s (suc j)).pending) i j → On (goes (s j))
-      going j (inl e) d = or_left (s j).active (s j).pending (subst (λ c. On (s c).active) e on)
-      going zero (inr l) d = absurd (omega arith)
-      going (suc j) (inr l) d = or_right (s (suc j)).active (s (suc j)).pending (d j (omega arith) (omega arith)).1
+      goes : (j : ℕ) → (i ≡ j) ⊎ (i < j) → During (λ j. K j × On (y (suc j))) i j → On (z j || y j)
+      goes j (inl e) d = or_left (z j) (y j) (subst (λ c. On (z c)) e on)
+      goes zero (inr l) d = absurd (omega arith)
+      goes (suc j) (inr l) d = or_right (z (suc j)) (y (suc j)) (d j (omega arith) (omega arith)).1
 
-      by :
-          (j : ℕ) → i ≤ j → During (λ j. K j × On (s (suc j)).pending) i j → G j ⊎ (K j × On (s (suc j)).pending)
-          → K j × On (s (suc j)).pending
+      by : (j : ℕ) → i ≤ j → During (λ j. K j × On (y (suc j))) i j → G j ⊎ (K j × On (y (suc j))) → K j × On (y (suc j))
       by j l d (inl g) = absurd (never (R.unit (j, (l, g, λ c p q. (d c p q).0))))
       by j l d (inr x) = x
 
   keeps_forever :
-      (f : Bool) → ((j : ℕ) → (s (suc j)).pending ≡ (goes (s j) && not (done_bit f (a j) (b j))))
-      → ((j : ℕ) → (goes (s j) && not (need_bit f (a j) (b j))) ≡ false) → (i : ℕ) → On (s i).active → ¬ Until R (Keeps f A B) (Goals f A B) i
-      → (j : ℕ) → i ≤ j → Keeps f A B j × On (s (suc j)).pending
-  keeps_forever f hands none_fails = waits_forever (Keeps f A B) (Goals f A B) (λ j g. by j (goes_on f (a j) (b j) (goes (s j)) g (none_fails j)))
+      (f : Bool) → ((j : ℕ) → y (suc j) ≡ ((z j || y j) && not (done_bit f (a j) (b j))))
+      → ((j : ℕ) → ((z j || y j) && not (need_bit f (a j) (b j))) ≡ false) → (i : ℕ) → On (z i) → ¬ Until R (Keeps f A B) (Goals f A B) i → (j : ℕ)
+      → i ≤ j → Keeps f A B j × On (y (suc j))
+  keeps_forever f hands none_fails = waits_forever (Keeps f A B) (Goals f A B) (λ j g. by j (goes_on f (a j) (b j) (z j || y j) g (none_fails j)))
     where
       by :
-          (j : ℕ) → On (goal_bit f (a j) (b j)) ⊎ (On (keep_bit f (a j) (b j)) × On (goes (s j) && not (done_bit f (a j) (b j))))
-          → Goals f A B j ⊎ (Keeps f A B j × On (s (suc j)).pending)
+          (j : ℕ) → On (goal_bit f (a j) (b j)) ⊎ (On (keep_bit f (a j) (b j)) × On ((z j || y j) && not (done_bit f (a j) (b j))))
+          → Goals f A B j ⊎ (Keeps f A B j × On (y (suc j)))
       by j (inl g) = inl ((goal_iff f (a j) (b j) iff_refl iff_refl).1 g)
       by j (inr x) = inr ((keep_iff f (a j) (b j) iff_refl iff_refl).1 x.0, hands j ∙ x.1)
 
-  -- a row that looks back and does not fail
-  looks_back_lem : (p : Pattern) → delay p ≡ 1 → Passes p → (i : ℕ) → On (s i).active → Holds R A B p i
-  looks_back_lem p d h i on =
-      let depth : ℕ → ℕ = λ j. 0 in
-      (back_iff R A B a b (λ j. iff_refl) (λ j. iff_refl) depth p d i).1
-      (not_failed (s i).active _ (sym (back_failed a b s depth p d h.kept i) ∙ h.none_fails i) on)
-
-  holds_where_active : (p : Pattern) → Passes p → (i : ℕ) → On (s i).active → Holds R A B p i
-  holds_where_active now h i on = not_failed (s i).active (b i) (h.none_fails i) on
-  holds_where_active next h i on = not_failed (s (suc i)).pending (b (suc i)) (h.none_fails (suc i)) (h.kept.pendings i ∙ on)
+  holds_where_active : (p : Pattern) → Passes p → (i : ℕ) → On (z i) → Holds R A B p i
+  holds_where_active now h i on = not_failed (z i) (b i) (h.none_fails i) on
+  holds_where_active next h i on = not_failed (y (suc i)) (b (suc i)) (h.none_fails (suc i)) (h.hands i ∙ on)
   holds_where_active (connective f) h i on =
-      (connective_iff R f (a i) (b i) iff_refl iff_refl).1 (not_failed (s i).active (connective_bit f (a i) (b i)) (h.none_fails i) on)
-  holds_where_active (previous w) h i on = looks_back_lem (previous w) refl h i on
-  holds_where_active (temporal f true) h i on =
-      full _ (λ n. n (inr (λ j l. (keeps_forever f h.kept.pendings h.none_fails i on (λ u. n (inl u)) j l).0)))
+      (connective_iff R f (a i) (b i) iff_refl iff_refl).1 (not_failed (z i) (connective_bit f (a i) (b i)) (h.none_fails i) on)
+  holds_where_active (temporal f true) h i on = full _ (λ n. n (inr (λ j l. (keeps_forever f h.hands h.none_fails i on (λ u. n (inl u)) j l).0)))
   holds_where_active (temporal f false) h i on =
-      full _ (λ n. h.none_starves i (λ j l. not_off _ (sym (h.kept.pendings j) ∙ (keeps_forever f h.kept.pendings h.none_fails i on (λ u. R.sure u n) j l).1)))
-  holds_where_active (past f w) h i on = looks_back_lem (past f w) refl h i on
+      full _ (λ n. h.none_starves i (λ j l. not_off _ (sym (h.hands j) ∙ (keeps_forever f h.hands h.none_fails i on (λ u. R.sure u n) j l).1)))
 
 -- ---- a table with any states: `states i` is what was handed on to cycle i
 
@@ -150,23 +137,6 @@ module _ (t : Table) (m : ℕ) (w : InfiniteTrace) (act : Activators) (states : 
     pub fresh : SameState (λ k. k < m) (states 0) fresh_state
     pub next : (i : ℕ) → SameState (λ k. k < m) (states (suc i)) (next_state t (act i) (w i) (states i))
 
-  -- a row's states by cycle, and that they are handed on by its pattern
-  abbrev pub states_of : ℕ → ℕ → RowState
-  states_of k i = row_state (act i) (states i) k
-
-  pub row_kept :
-      (k : ℕ) → k < m → Positive (t k) → HandedOn
-      → Kept (operand_bits w row_active (left (t k))) (operand_bits w row_active (right (t k))) (states_of k) (pattern_of (t k))
-  row_kept k h positive handed =
-      let said = output_by_pattern t w act states k positive in
-      record {
-        fresh = handed.fresh.same_pending k h;
-        starts = handed.fresh.same_initial;
-        goes_on = λ j. (handed.next j).same_initial;
-        pendings = λ j. (handed.next j).same_pending k h ∙ ap (λ o. o.pending) (said j);
-        memories = λ j. (handed.next j).same_memory k h ∙ ap (λ o. o.memory) (said j);
-      }
-
   -- no monitor ever fails, and none accepts no more from some cycle on
   pub record Unfailing : Type 0 where
     pub none_fails : (k : ℕ) → k < m → (i : ℕ) → (output_in t w act states i k).failed ≡ false
@@ -181,7 +151,7 @@ module _ (t : Table) (m : ℕ) (w : InfiniteTrace) (act : Activators) (states : 
       where
         step : (k : ℕ) → ((a : ℕ) → a < k → a < m → (i : ℕ) → On (act i a) → v a i) → k < m → (i : ℕ) → On (act i k) → v k i
         step k ih h i on =
-            let held = holds_where_active R full _ _ (states_of k) (pattern_of (t k)) row_passes i on in
+            let held = holds_where_active R full _ _ (λ j. act j k) (λ j. (states j).pending k) (pattern_of (t k)) row_passes i on in
             (interprets_pattern R w v live t m ordered interprets k h i).1
             (alive k i h on, holds_map R _ _ _ _ operands.0 operands.1 (pattern_of (t k)) i held)
           where
@@ -192,9 +162,9 @@ module _ (t : Table) (m : ℕ) (w : InfiniteTrace) (act : Activators) (states : 
             said : (j : ℕ) → output_in t w act states j k ≡ pattern_output t w act states j k
             said = output_by_pattern t w act states k (positive k h)
 
-            row_passes : Passes R full (operand_bits w row_active (left (t k))) (operand_bits w row_active (right (t k))) (states_of k) (pattern_of (t k))
+            row_passes : Passes R full (operand_bits w row_active (left (t k))) (operand_bits w row_active (right (t k))) (λ j. act j k) (λ j. (states j).pending k) (pattern_of (t k))
             row_passes = record {
-              kept = row_kept k h (positive k h) handed;
+              hands = λ j. (handed.next j).same_pending k h ∙ ap (λ o. o.pending) (said j);
               none_fails = λ j. sym (ap (λ o. o.failed) (said j)) ∙ passes.none_fails k h j;
               none_starves = λ i none. passes.none_starves k h i (λ j l. ap (λ o. o.accept) (said j) ∙ none j l);
             }
@@ -209,12 +179,9 @@ module _ (t : Table) (m : ℕ) (w : InfiniteTrace) (act : Activators) (states : 
 -- ---- the states of Along
 
 module _ (t : Table) (m : ℕ) (w : InfiniteTrace) (act : Activators) where
-  pub handed_on_lem : HandedOn t m w act (state_before t w act)
+  pub handed_on : HandedOn t m w act (state_before t w act)
   unfolding state_before
-  handed_on_lem = record {
-    fresh = record { same_pending = λ k h. refl; same_memory = λ k h. refl; same_initial = refl };
-    next = λ i. record { same_pending = λ k h. refl; same_memory = λ k h. refl; same_initial = refl };
-  }
+  handed_on = record { fresh = record { same_pending = λ k h. refl }; next = λ i. record { same_pending = λ k h. refl } }
 
   -- all states that are handed on are those
   pub handed_on_unique : (states : ℕ → State Bool) → HandedOn t m w act states → (i : ℕ) → SameState (λ k. k < m) (states i) (state_before t w act i)
@@ -223,16 +190,15 @@ module _ (t : Table) (m : ℕ) (w : InfiniteTrace) (act : Activators) where
   handed_on_unique states handed (suc i) =
       let before = handed_on_unique states handed i in
       record {
-        same_pending = λ k h. (handed.next i).same_pending k h ∙ ap (λ s. (monitor (act i) (w i) (t k) s).pending) (same_row before (act i) k h);
-        same_memory = λ k h. (handed.next i).same_memory k h ∙ ap (λ s. (monitor (act i) (w i) (t k) s).memory) (same_row before (act i) k h);
-        same_initial = (handed.next i).same_initial;
+        same_pending = λ k h. (handed.next i).same_pending k h
+            ∙ ap (λ y. (monitor (act i) (w i) (t k) (record { active = act i k; pending = y })).pending) (before.same_pending k h);
       }
 
   module _ (ordered : Ordered m t) (positive : (k : ℕ) → k < m → Positive (t k)) (passes : Unfailing t m w act (state_before t w act)) (R : Reading) (full : Full R) where
     pub along_active_true :
         (live : ℕ → Bool) → ((k i : ℕ) → k < m → On (act i k) → On (live i)) → (v : ℕ → ℕ → Type 0) → Interprets R live w t m v → (k : ℕ) → k < m
         → (i : ℕ) → On (act i k) → v k i
-    along_active_true = active_true t m w act (state_before t w act) ordered positive handed_on_lem passes R full
+    along_active_true = active_true t m w act (state_before t w act) ordered positive handed_on passes R full
 
     pub along_active_row_true : (k : ℕ) → k < m → (i : ℕ) → On (act i k) → RowTrue R w t k i
-    along_active_row_true = active_row_true t m w act (state_before t w act) ordered positive handed_on_lem passes R full
+    along_active_row_true = active_row_true t m w act (state_before t w act) ordered positive handed_on passes R full

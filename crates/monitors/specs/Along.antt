@@ -19,10 +19,6 @@ module _ (t : Table) (w : InfiniteTrace) (act : Activators) where
   abbrev pub pending_before : ℕ → ℕ → Bool
   pending_before i k = (state_before i).pending k
 
-  -- and its second bit
-  abbrev pub memory_before : ℕ → ℕ → Bool
-  memory_before i k = (state_before i).memory k
-
   -- what row k's monitor says in cycle i
   abbrev pub output : ℕ → ℕ → Output
   output i k = output_from t (act i) (w i) (state_before i) k

@@ -1,5 +1,4 @@
 pub mod Monitor
 pub mod State
 pub mod Along
-pub mod Memory
 pub mod Sheet

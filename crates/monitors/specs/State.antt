@@ -1,48 +1,39 @@
--- What the monitors of a table hand on from one cycle to the next, and in which order it is given and written (01, "Monitors", and 02,
--- request 6). Assumes nothing.
-use Rattle.std.specs.Prelude.{ℕ, suc, ◌+◌, ◌*◌, Bool, true, false, List, [], ◌∷◌, ◌++◌}
+-- What the monitors of a table hand on from one cycle to the next, and in which order it is given and written. Assumes nothing.
+use Rattle.std.specs.Prelude.{ℕ, suc, Bool, false, List}
 use Rattle.tables.specs.Place.{tabulate}
 use Rattle.meaning.specs.Satisfaction.{Table}
 use Rattle.monitors.specs.declared.Output.{Output}
 use Rattle.monitors.specs.declared.RowState.{RowState}
 use Rattle.monitors.specs.Monitor.{monitor}
 
--- one A for each thing that is handed on: each row's pending and memory ("Each row's kept state gains a second bit"), by its number, which
--- counts from 1, "and the whole state a first-cycle mark". A is Bool in a state; but where a thing stands, and which latch of a circuit
--- holds it, go by the same record.
+-- one A for each thing that is handed on: each row's pending, by its number, which counts from 1. A is Bool in a state; but where a thing
+-- stands, and which latch of a circuit holds it, go by the same record.
 pub record State (A : Type 0) : Type 0 where
   pub pending : ℕ → A
-  pub memory : ℕ → A
-  pub initial : A
 
--- in the order in which they are given and written, of so many rows: "both behind the pendings, the mark last"
+-- in the order in which they are given and written, of so many rows: the pendings by row
 abbrev pub in_order : {A : Type 0} → ℕ → State A → List A
-in_order rows s = tabulate rows (λ i. s.pending (suc i)) ++ (tabulate rows (λ i. s.memory (suc i)) ++ (s.initial ∷ []))
+in_order rows s = tabulate rows (λ i. s.pending (suc i))
 
 -- how many they are
 abbrev pub state_size : ℕ → ℕ
-state_size rows = 2 * rows + 1
+state_size rows = rows
 
 -- and the place of each in that order, counted from 1
 abbrev pub state_places : ℕ → State ℕ
-state_places rows = record { pending = λ k. k; memory = λ k. rows + k; initial = 2 * rows + 1 }
+state_places rows = record { pending = λ k. k }
 
 -- what stands in these places
 abbrev pub state_at : {A : Type 0} → ℕ → (ℕ → A) → State A
-state_at rows x = record {
-  pending = λ k. x ((state_places rows).pending k);
-  memory = λ k. x ((state_places rows).memory k);
-  initial = x (state_places rows).initial;
-}
+state_at rows x = record { pending = λ k. x ((state_places rows).pending k) }
 
--- "Y is this row's pending one cycle earlier, 0 in the first cycle"; "second bits and mark being handed on like the pendings, the mark
--- on at first"
+-- "Y is this row's pending one cycle earlier, 0 in the first cycle"
 abbrev pub fresh_state : State Bool
-fresh_state = record { pending = λ k. false; memory = λ k. false; initial = true }
+fresh_state = record { pending = λ k. false }
 
 -- row k itself, in a cycle with these activators
 abbrev pub row_state : (ℕ → Bool) → State Bool → ℕ → RowState
-row_state act s k = record { active = act k; pending = s.pending k; memory = s.memory k; initial = s.initial }
+row_state act s k = record { active = act k; pending = s.pending k }
 
 -- a cycle with these activators and signals, from this state
 module _ (t : Table) (act signals : ℕ → Bool) (s : State Bool) where
@@ -50,6 +41,6 @@ module _ (t : Table) (act signals : ℕ → Bool) (s : State Bool) where
   abbrev pub output_from : ℕ → Output
   output_from k = monitor act signals (t k) (row_state act s k)
 
-  -- the state that the cycle leaves, "the mark last (written 0)"
+  -- the state that the cycle leaves
   abbrev pub next_state : State Bool
-  next_state = record { pending = λ k. (output_from k).pending; memory = λ k. (output_from k).memory; initial = false }
+  next_state = record { pending = λ k. (output_from k).pending }

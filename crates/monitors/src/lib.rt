@@ -1,26 +1,22 @@
-// Monitors of the rows of a normal form (01, "Monitors", and 02, request 6): what each says in one cycle.
+// Monitors of the rows of a normal form (01, "Monitors"): what each says in one cycle.
 ghost use Rattle.std.specs.Prelude.{◌≡◌};
-ghost use Rattle.monitors.specs.Monitor.{awaits as awaitsOf, binary_monitor, checks as checksOf, constant_monitor, keeps as keepsOf, looks_back, recalls as recallsOf, row_monitor, signal_monitor, unary_monitor, waits as waitsOf};
+ghost use Rattle.monitors.specs.Monitor.{awaits as awaitsOf, binary_monitor, checks as checksOf, constant_monitor, row_monitor, signal_monitor, unary_monitor, waits as waitsOf};
 
 use tables::row::{BinaryKind, ConstantKind, Row, SignalKind, UnaryKind};
 
-// What a monitor says in one cycle. Pending and memory are handed on to the next.
+// What a monitor says in one cycle.
 #[derive(Drop)]
 pub struct Output {
     pub failed: bool,
     pub accept: bool,
     pub pending: bool,
-    pub memory: bool,
 }
 
-// The row itself in this cycle: whether it is active, its pending and its memory one cycle earlier, and whether this is the first
-// cycle, which has none before it.
+// The row itself in this cycle: whether it is active, and whether it was pending one cycle earlier.
 #[derive(Drop)]
 pub struct RowState {
     pub active: bool,
     pub pending: bool,
-    pub memory: bool,
-    pub initial: bool,
 }
 
 // What is not named is: pending 0, failed 0, accept 1.
@@ -31,7 +27,6 @@ fn checks(failed: bool) -> Output
         failed,
         accept: true,
         pending: false,
-        memory: false,
     }
 }
 
@@ -42,7 +37,6 @@ fn waits(pending: bool, failed: bool) -> Output
         failed,
         accept: true,
         pending,
-        memory: false,
     }
 }
 
@@ -53,33 +47,7 @@ fn awaits(pending: bool, failed: bool) -> Output
         failed,
         accept: !pending,
         pending,
-        memory: false,
     }
-}
-
-// A row that looks back, by its meaning over its operands' activators so far.
-fn looks_back(state: RowState, meaning: bool, memory: bool) -> Output
-    ensures answer { result ≡ looks_back state meaning memory }
-{
-    Output {
-        failed: state.active & !meaning,
-        accept: true,
-        pending: false,
-        memory,
-    }
-}
-
-fn keeps(state: RowState, meaning: bool) -> Output
-    ensures answer { result ≡ keepsOf state meaning }
-{
-    looks_back(state, meaning, meaning)
-}
-
-// The row's memory, or in the first cycle what holds before it.
-fn recalls(first: bool, state: RowState) -> bool
-    ensures answer { result ≡ recallsOf first state }
-{
-    if state.initial { first } else { state.memory }
 }
 
 pub fn constant(kind: ConstantKind, state: RowState) -> Output
@@ -109,10 +77,6 @@ pub fn unary(kind: UnaryKind, a: bool, state: RowState) -> Output
         UnaryKind::Next => waits(state.active, state.pending & !a),
         UnaryKind::Always => waits(goes, goes & !a),
         UnaryKind::Ever => awaits(goes & !a, false),
-        UnaryKind::Before => looks_back(state, recalls(false, state), a),
-        UnaryKind::Wbefore => looks_back(state, recalls(true, state), a),
-        UnaryKind::Once => keeps(state, a | recalls(false, state)),
-        UnaryKind::Sofar => keeps(state, a & recalls(true, state)),
     }
 }
 
@@ -127,8 +91,6 @@ pub fn binary(kind: BinaryKind, a: bool, b: bool, state: RowState) -> Output
         BinaryKind::Until => awaits(goes & !b, goes & !b & !a),
         BinaryKind::Release => waits(goes & !a, goes & !b),
         BinaryKind::Srelease => awaits(goes & !a, goes & !b),
-        BinaryKind::Since => keeps(state, b | (a & recalls(false, state))),
-        BinaryKind::Trigger => keeps(state, b & (a | recalls(true, state))),
     }
 }
 

@@ -12,7 +12,7 @@ use Rattle.tables.specs.Kind.{dual_of, first_number}
 use Rattle.tables.specs.declared.row.ConstantKind.{ConstantKind}
 use Rattle.tables.specs.declared.row.SignalKind.{SignalKind}
 use Rattle.tables.specs.declared.row.UnaryKind.{UnaryKind}
-use Rattle.tables.specs.declared.row.UnaryKind.TheVariants.{Not, Next, Always, Ever, Before, Wbefore, Once, Sofar}
+use Rattle.tables.specs.declared.row.UnaryKind.TheVariants.{Not, Next, Always, Ever}
 use Rattle.tables.specs.declared.row.BinaryKind.{BinaryKind}
 use Rattle.tables.specs.declared.row.Row.{Row}
 use Rattle.tables.specs.declared.row.Row.TheVariants.{Constant, Signal, Unary, Binary}
@@ -39,10 +39,6 @@ not_kind Not e = refl
 not_kind Next e = absurd (true≢false (sym e))
 not_kind Always e = absurd (true≢false (sym e))
 not_kind Ever e = absurd (true≢false (sym e))
-not_kind Before e = absurd (true≢false (sym e))
-not_kind Wbefore e = absurd (true≢false (sym e))
-not_kind Once e = absurd (true≢false (sym e))
-not_kind Sofar e = absurd (true≢false (sym e))
 
 pub not_row : (r : Row) → is_not r ≡ true → r ≡ Unary Not (first_number r)
 not_row (Constant c) e = absurd (true≢false (sym e))

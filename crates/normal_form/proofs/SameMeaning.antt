@@ -154,8 +154,8 @@ module _ (f : Formula) (sign : Sign) (number : ℕ → Sign → ℕ) (rows : Lis
 
     -- ---- and the other way, in a full reading
     module _ (full : Full R) where
-      not-not : (k : ℕ) → k ≤ f.rows → (i : ℕ) → ¬ ¬ v k i → v k i
-      not-not k h i = not_not_stable R full (truth_stable R w (table_of f.places) (suc f.rows) ordered_formula k (omega arith) i)
+      not_not : (k : ℕ) → k ≤ f.rows → (i : ℕ) → ¬ ¬ v k i → v k i
+      not_not k h i = not_not_stable R full (truth_stable R w (table_of f.places) (suc f.rows) ordered_formula k (omega arith) i)
 
       abbrev Follows : ℕ → Sign → Type 0
       Follows k s = (i : ℕ) → Under s (v k i) → u (number k s) i
@@ -182,12 +182,12 @@ module _ (f : Formula) (sign : Sign) (number : ℕ → Sign → ℕ) (rows : Lis
                   let b = below k h.0 h.1 a o in
                   let ra : Reached f sign a (turned s) = subst (Reached f sign a) (ap (λ b. pick b (turned s) s) e) (operand a r o) in
                   let y : Under s (¬ v a i) = under_map s (subst (λ z. v k i ↔ Means R w v z i) n (says k h.0 h.1 i)) x in
-                  subst⁻¹ (λ z. u z i) (normal.not_stands k s a r n) (ih a b.1 (turned s) ra i (turned_back s (v a i) (not-not a (omega (arith, b.1, h.1)) i) y))
+                  subst⁻¹ (λ z. u z i) (normal.not_stands k s a r n) (ih a b.1 (turned s) ra i (turned_back s (v a i) (not_not a (omega (arith, b.1, h.1)) i) y))
               by false e =
                   let h = reached_row r in
                   let l : Listed f sign k s = (r, e) in
                   (stands k s l i).1 (plain_or_dual_back s (row_of f k) i (positive_row (row_of f k) e)
-                  (operands (λ a. Follows a s × ((j : ℕ) → ¬ ¬ v a j → v a j)) k s l (λ a q ra. (ih a q s ra, not-not a (omega (arith, q, h.1))))) (under_map s (says k h.0 h.1 i) x))
+                  (operands (λ a. Follows a s × ((j : ℕ) → ¬ ¬ v a j → v a j)) k s l (λ a q ra. (ih a q s ra, not_not a (omega (arith, q, h.1))))) (under_map s (says k h.0 h.1 i) x))
 
       -- the root
       pub same_root : (i : ℕ) → u (length rows) i ↔ Under sign (v f.rows i)

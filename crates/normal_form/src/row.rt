@@ -18,10 +18,6 @@ pub fn is_not(row: Row) -> bool
             UnaryKind::Next => false,
             UnaryKind::Always => false,
             UnaryKind::Ever => false,
-            UnaryKind::Before => false,
-            UnaryKind::Wbefore => false,
-            UnaryKind::Once => false,
-            UnaryKind::Sofar => false,
         },
         Row::Binary(_, _, _) => false,
     }

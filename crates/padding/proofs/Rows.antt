@@ -117,9 +117,9 @@ numbers_back (Unary k a) t s h p = one_back a t s h.0 p
 numbers_back (Binary k a b) t s h p = two_back a b t s h.0 h.1 p
 
 -- THE WRITTEN ROW, PADDED, IS READ AS THAT ROW
-pub row_back_lem : (signals : ℕ) → signals ≤ 32 → (k : ℕ) (r : Row) (t s : List ℕ) → k < 100000 → in_range signals k r ≡ true
+pub row_back : (signals : ℕ) → signals ≤ 32 → (k : ℕ) (r : Row) (t s : List ℕ) → k < 100000 → in_range signals k r ≡ true
     → PaddedFrom other (written_row r ++ (10 ∷ t)) s → ValueThen (Reads (row_value signals) 20 k r) t s
-row_back_lem signals hs k r t s h e p =
+row_back signals hs k r t s h e p =
     let word : List ℕ = word_of (kind_at (place_of r)) in
     let c : place_of r < kind_count = (kind_of_row r).0 in
     let a = same_back other word (numbers_text r ++ (10 ∷ t)) s (word_none (place_of r) c) (rw (append_assoc word (numbers_text r) (10 ∷ t)) at p) in

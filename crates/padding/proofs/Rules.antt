@@ -25,7 +25,7 @@ use Rattle.padding.specs.Padding.{Before.other, unpadded, Padded}
 use Rattle.padding.proofs.Bytes.{PaddedFrom}
 use Rattle.padding.proofs.Lines.{body_on, body_back}
 use Rattle.padding.proofs.Headers.{signals_word, rows_word, headed, header_on, header_back}
-use Rattle.padding.proofs.Rows.{row_on, row_back_lem}
+use Rattle.padding.proofs.Rows.{row_on, row_back}
 use Rattle.padding.proofs.Files.{same_table, unpadded_read, written_plain}
 
 -- ---- what is accepted
@@ -63,7 +63,7 @@ text_back f file v p =
     let n : length (rows_of f) ≡ m = valid_rows f v in
     let body : List ℕ = written_body 114 written_row 1 (rows_of f) in
     let h = header_back (bytes "signals") (bytes "rows") signals_word rows_word s m body file (omega (arith, i.most_signals)) (omega (arith, i.most_rows)) p in
-    let b = body_back 114 refl (row_value s) written_row (omega arith) 20 (RowOk s) (row_back_lem s i.most_signals)
+    let b = body_back 114 refl (row_value s) written_row (omega arith) 20 (RowOk s) (row_back s i.most_signals)
     (rows_of f) 1 4 h.rest (omega (arith, n, i.most_rows)) i.rows_in_range h.goes in
     let short : length file ≤ 65536 = omega (arith, h.short, b.1, n, i.most_rows) in
     rw (le-ltb 65536 (length file) short)

@@ -1,6 +1,6 @@
--- On a lasso that covers a normal form the true bits of every row are found from those of its operands, by a pass over its loop and one
--- over its cycles, or, where it looks back, from the first cycle on, and they are on where the row is true (true-bits). Assumes nothing.
-use Prim.Native.Nat.{ℕ, zero, suc, ◌+◌, ◌-◌, ◌≤◌, ◌<◌}
+-- On a lasso that covers a normal form the true bits of every row are found from those of its operands, by a pass over its loop and one over its cycles, and they
+-- are on where the row is true (true-bits). Assumes nothing.
+use Prim.Native.Nat.{ℕ, suc, ◌+◌, ◌-◌, ◌≤◌, ◌<◌}
 use mathlib.Core.Path.{◌≡◌, refl, subst, ap, ap₂, ◌∙◌}
 use mathlib.Core.Logic.{◌↔◌}
 use mathlib.Core.Bool.{Bool, true, false}
@@ -16,14 +16,13 @@ use Rattle.meaning.specs.Trace.{InfiniteTrace, position, signal_at}
 use Rattle.meaning.specs.Satisfaction.{Table, table_of, RowTrue}
 use Rattle.meaning.specs.Rows.{Ordered}
 use Rattle.meaning.specs.Covers.{CoversIn}
-use Rattle.meaning.specs.Pattern.{Pattern, Pattern.now, Pattern.next, Pattern.connective, Pattern.previous, Pattern.temporal, Pattern.past}
-use Rattle.meaning.specs.Pattern.{left, right, pattern_of, keep_bit, goal_bit, connective_bit, keep_bits, goal_bits, operand_bits}
-use Rattle.meaning.specs.Approximant.{approximant, accumulated, earlier}
+use Rattle.meaning.specs.Pattern.{Pattern, Pattern.now, Pattern.next, Pattern.connective, Pattern.temporal}
+use Rattle.meaning.specs.Pattern.{left, right, pattern_of, connective_bit, keep_bits, goal_bits, operand_bits}
+use Rattle.meaning.specs.Approximant.{approximant}
 use Rattle.meaning.proofs.Readings.{On}
 use Rattle.meaning.proofs.Truth.{every_cycle}
 use Rattle.meaning.proofs.Periodic.{Periodic, position_first, position_periodic}
 use Rattle.meaning.proofs.Streams.{approximant_local}
-use Rattle.meaning.proofs.Accumulated.{accumulated_local}
 use Rattle.meaning.proofs.PatternBits.{pattern_bit, row_bit}
 use Rattle.meaning.proofs.Evaluation.{bits_of}
 use Rattle.meaning.proofs.Lasso.{two_rounds, two_passes, lasso, lasso_bits_computed, lasso_truth}
@@ -42,9 +41,7 @@ module _ (n l : ℕ) where
   pattern_lasso p q now c = q c
   pattern_lasso p q next c = pick (ltb (suc c) n) (q (suc c)) (q l)
   pattern_lasso p q (connective f) c = connective_bit f (p c) (q c)
-  pattern_lasso p q (previous w) c = earlier w q c
   pattern_lasso p q (temporal f w) c = until_lasso (keep_bits f p q) (goal_bits f p q) w c
-  pattern_lasso p q (past f w) c = accumulated (keep_bits f p q) (goal_bits f p q) w c
 
   -- over the signals and the bits of the rows, by row and cycle
   abbrev pub lasso_bit : InfiniteTrace → (ℕ → ℕ → Bool) → Row → ℕ → Bool
@@ -82,11 +79,7 @@ module _ (n l : ℕ) (l<n : l < n) where
   pattern_along p q now c h = along_first q c h
   pattern_along p q next c h = pick_over q (ltb (suc (position n l c)) n) (suc (position n l c)) l ∙ ap (λ i. pick (ltb (suc i) n) (q (suc i)) (q l)) (position_first n l c h)
   pattern_along p q (connective f) c h = ap₂ (connective_bit f) (along_first p c h) (along_first q c h)
-  pattern_along p q (previous w) zero h = refl
-  pattern_along p q (previous w) (suc c) h = along_first q c (omega arith)
   pattern_along p q (temporal f w) c h = until_along (keep_bits f p q) (goal_bits f p q) w c h
-  pattern_along p q (past f w) c h = accumulated_local (keep_bits f (along p) (along q)) (goal_bits f (along p) (along q)) w (keep_bits f p q) (goal_bits f p q) c
-      (λ j l. (ap₂ (keep_bit f) (along_first p j (omega arith)) (along_first q j (omega arith)), ap₂ (goal_bit f) (along_first p j (omega arith)) (along_first q j (omega arith))))
 
   pub row_lasso :
       (recording : ℕ → ℕ → Bool) (bits : ℕ → ℕ → Bool) (r : Row) (c : ℕ) → c < n

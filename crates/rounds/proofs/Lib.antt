@@ -1,12 +1,8 @@
 pub mod LassoBits
 pub mod Operands
 pub mod OneRow
-pub mod PastRow
 pub mod OneRound
 pub mod NextRound
-pub mod Only
-pub mod FilledForward
-pub mod Listed
 pub mod History
 pub mod Start
 pub mod Spreading

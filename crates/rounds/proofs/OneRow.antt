@@ -1,6 +1,6 @@
 -- One row in a round whose operands are right: until and its like are right at the loop's cycle (row-at-loop), and each row is right at
--- every cycle where the round leaves at the loop's cycle what stood behind the last one, as far as the row reads it there (row-right). A row
--- that looks back is as it is given (as-given). Assumes nothing.
+-- every cycle where the round leaves at the loop's cycle what stood behind the last one, as far as the row reads it there (row-right).
+-- Assumes nothing.
 use Prim.Native.Nat.{ℕ, zero, suc, ◌+◌, ◌-◌, ◌≤◌, ◌<◌}
 use mathlib.Core.Path.{◌≡◌, refl, sym, subst, ap, ap₂, ◌∙◌}
 use mathlib.Core.Logic.{◌⊎◌, inl, inr}
@@ -12,17 +12,16 @@ use Rattle.tables.specs.Choice.{pick}
 use Rattle.tables.specs.declared.row.Row.{Row}
 use Rattle.meaning.specs.Trace.{InfiniteTrace}
 use Rattle.meaning.specs.Rows.{Each}
-use Rattle.meaning.specs.Pattern.{Pattern, Pattern.now, Pattern.next, Pattern.connective, Pattern.previous, Pattern.temporal, Pattern.past}
+use Rattle.meaning.specs.Pattern.{Pattern, Pattern.now, Pattern.next, Pattern.connective, Pattern.temporal}
 use Rattle.meaning.specs.Pattern.{left, right, pattern_of, keep_bit, goal_bit, connective_bit, keep_bits, goal_bits, operand_bit, operand_bits}
 use Rattle.meaning.specs.Approximant.{expand, approximant}
-use Rattle.meaning.proofs.Readings.{On, on_and_off}
+use Rattle.meaning.proofs.Readings.{On}
 use Rattle.meaning.proofs.Rows.{each_map, each_zip}
 use Rattle.cycle_rows.specs.Cycle.{Given, pattern_from, row_from}
-use Rattle.cycle_rows.specs.Back.{looks_back}
-use Rattle.between_rounds.specs.Between.{same_bit}
+use Rattle.between_rounds.specs.Between.{same_bit, stays}
 use Rattle.rounds.specs.Rounds.{Columns}
 use Rattle.rounds.proofs.LassoBits.{pattern_lasso, lasso_bit}
-use Rattle.rounds.proofs.Operands.{Looks, Stays, same_equal, operands_alike, any_signals}
+use Rattle.rounds.proofs.Operands.{LooksAhead, same_equal, every_each, operands_alike, any_signals}
 
 -- ---- a pass back over d cycles from i on
 
@@ -67,16 +66,17 @@ abbrev pub StartsAt : Bool → Bool → Pattern → Type 0
 StartsAt at_loop behind now = Unit {0}
 StartsAt at_loop behind next = Unit {0}
 StartsAt at_loop behind (connective f) = Unit {0}
-StartsAt at_loop behind (previous w) = Unit {0}
 StartsAt at_loop behind (temporal f w) = (behind ≡ w) ⊎ (behind ≡ at_loop)
-StartsAt at_loop behind (past f w) = Unit {0}
 
--- what a cycle is given: its signals, and those of its rows that look back
-abbrev pub given_of : InfiniteTrace → Columns → ℕ → Given
-given_of signals filled c = record { signals = signals c; past = filled c }
+-- the signals that are given
+abbrev pub signals_of : (ℕ → Given) → InfiniteTrace
+signals_of given c = (given c).signals
 
-module _ (n l : ℕ) (l<n : l < n) (signals : InfiniteTrace) (given : Columns) (bits : ℕ → ℕ → Bool) (from : ℕ) (from≤l : from ≤ l) (x : Columns)
+module _ (n l : ℕ) (l<n : l < n) (given : ℕ → Given) (bits : ℕ → ℕ → Bool) (from : ℕ) (from≤l : from ≤ l) (x : Columns)
     (r : Row) (k : ℕ) (operands : Each (Right n bits from x) r) where
+  abbrev signals : InfiniteTrace
+  signals = signals_of given
+
   abbrev p : ℕ → Bool
   p = operand_bits signals bits (left r)
 
@@ -88,7 +88,7 @@ module _ (n l : ℕ) (l<n : l < n) (signals : InfiniteTrace) (given : Columns) (
 
   abbrev FilledBy : Pattern → Type 0
   FilledBy y = (c : ℕ) → from ≤ c → c < n
-      → x c k ≡ pattern_from y (operand_bit (signals c) (x c) (left r)) (operand_bit (signals c) (x c) (right r)) (operand_bit (signals c) (x (suc c)) (right r)) (x (suc c) k) (given c k)
+      → x c k ≡ pattern_from y (operand_bit (signals c) (x c) (left r)) (operand_bit (signals c) (x c) (right r)) (operand_bit (signals c) (x (suc c)) (right r)) (x (suc c) k)
 
   abbrev TrueBy : Pattern → Type 0
   TrueBy y = (c : ℕ) → c < n → bits k c ≡ pattern_lasso n l p q y c
@@ -112,7 +112,7 @@ module _ (n l : ℕ) (l<n : l < n) (signals : InfiniteTrace) (given : Columns) (
     loop_right (inl e) = pass l from≤l l<n ∙ ap (λ v. approximant (keep_bits f p q) (goal_bits f p q) v (n - l) l) e ∙ sym at_loop
     loop_right (inr e) = from_right e l from≤l l<n
 
-  next_right : FilledBy next → TrueBy next → Looks (pattern_of r) → Each (λ a. On (same_bit (x n a) (x l a))) r → Right n bits from x k
+  next_right : FilledBy next → TrueBy next → LooksAhead (pattern_of r) → Each (λ a. On (same_bit (x n a) (x l a))) r → Right n bits from x k
   next_right filled true_bit looks same c h b = by (dec_lt (suc c) n)
     where
       -- the operand one cycle on, which is cycle i of the lasso
@@ -126,30 +126,18 @@ module _ (n l : ℕ) (l<n : l < n) (signals : InfiniteTrace) (given : Columns) (
           ahead l (each_zip _ _ _ (λ a e s. ap (λ i. x i a) last ∙ same_equal (x n a) (x l a) s ∙ e l from≤l l<n) r operands same)
           ∙ sym (true_bit c b ∙ ap (λ v. pick v (q (suc c)) (q l)) (le-ltb (suc c) n (omega arith)))
 
-  module _ (filled : (c : ℕ) → from ≤ c → c < n → x c k ≡ row_from (given_of signals given c) (x c) (x (suc c)) r k)
+  module _ (filled : (c : ℕ) → from ≤ c → c < n → x c k ≡ row_from (given c) (x c) (x (suc c)) r k)
       (true_bit : (c : ℕ) → c < n → bits k c ≡ lasso_bit n l signals bits r c) (starts : StartsAt (bits k l) (x n k) (pattern_of r)) where
     pub row_at_loop : (f w : Bool) → pattern_of r ≡ temporal f w → x l k ≡ bits k l
     row_at_loop f w e = loop_right f w (subst FilledBy e filled) (subst TrueBy e true_bit) (subst (StartsAt (bits k l) (x n k)) e starts)
 
-    -- a row that does not look back
-    pub row_right : looks_back (pattern_of r) ≡ false → Stays (λ a. same_bit (x n a) (x l a)) k r (pattern_of r) → Right n bits from x k
+    pub row_right : On (stays (λ a. same_bit (x n a) (x l a)) k r (pattern_of r)) → Right n bits from x k
     row_right = by (pattern_of r) (λ h. h) filled true_bit starts
       where
         by :
-            (y : Pattern) → (Looks y → Looks (pattern_of r)) → FilledBy y → TrueBy y → StartsAt (bits k l) (x n k) y → looks_back y ≡ false → Stays (λ a. same_bit (x n a) (x l a)) k r y
+            (y : Pattern) → (LooksAhead y → LooksAhead (pattern_of r)) → FilledBy y → TrueBy y → StartsAt (bits k l) (x n k) y → On (stays (λ a. same_bit (x n a) (x l a)) k r y)
             → Right n bits from x k
-        by now looks m v s ahead e = λ c h b. m c h b ∙ (here c h b).1 ∙ sym (v c b)
-        by next looks m v s ahead e = next_right m v (looks tt) e
-        by (connective f) looks m v s ahead e = λ c h b. m c h b ∙ ap₂ (connective_bit f) (here c h b).0 (here c h b).1 ∙ sym (v c b)
-        by (previous w) looks m v s ahead e = on_and_off refl ahead
-        by (temporal f w) looks m v s ahead e = from_right f w m v (same_equal (x n k) (x l k) e ∙ loop_right f w m v s)
-        by (past f w) looks m v s ahead e = on_and_off refl ahead
-
--- one that does is as it is given
-pub as_given : (y : Pattern) (a b b⁺ x⁺ x : Bool) → looks_back y ≡ true → pattern_from y a b b⁺ x⁺ x ≡ x
-as_given now a b b⁺ x⁺ x e = on_and_off e refl
-as_given next a b b⁺ x⁺ x e = on_and_off e refl
-as_given (connective f) a b b⁺ x⁺ x e = on_and_off e refl
-as_given (previous w) a b b⁺ x⁺ x e = refl
-as_given (temporal f w) a b b⁺ x⁺ x e = on_and_off e refl
-as_given (past f w) a b b⁺ x⁺ x e = refl
+        by now looks m v s e = λ c h b. m c h b ∙ (here c h b).1 ∙ sym (v c b)
+        by next looks m v s e = next_right m v (looks tt) (every_each (λ a. same_bit (x n a) (x l a)) r e)
+        by (connective f) looks m v s e = λ c h b. m c h b ∙ ap₂ (connective_bit f) (here c h b).0 (here c h b).1 ∙ sym (v c b)
+        by (temporal f w) looks m v s e = from_right f w m v (same_equal (x n k) (x l k) e ∙ loop_right f w m v s)

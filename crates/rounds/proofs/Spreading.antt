@@ -14,7 +14,7 @@ use Rattle.tables.specs.declared.trace.Trace.{Trace}
 use Rattle.lanes.specs.Truth.{lane_in}
 use Rattle.cycle_rows.proofs.Only.{GivenAlike}
 use Rattle.rounds.specs.Rounds.{given_at}
-use Rattle.rounds.specs.Recorded.{SpreadTo, bits_in, given_from}
+use Rattle.rounds.specs.Recorded.{SpreadTo, given_from}
 
 -- ---- one signal: its first c cycles are put
 pub record SignalTo (lane : Lane) (s : ℕ) (before : List Bool) (c : ℕ) (digits : List Bool) : Type 0 where
@@ -50,6 +50,6 @@ spread_more lanes digits after s cycles done h put others u c m l = by (ℕ_disc
     by (no q) = others u c (omega arith) q ∙ done u c (omega arith) l
 
 -- they are those of the recording
-pub spread_alike : (g : NormalForm) (t : Trace) (digits : List Bool) → SpreadTo g.signals t.cycles t.lanes digits → (past : List ℕ) (c : ℕ) → c < t.cycles
-    → GivenAlike g (given_from digits past c) (given_at t (bits_in past) c)
-spread_alike g t digits spread past c h = record { signals = λ i p q. spread (i - 1) c (omega arith) h; past = λ k l back. refl }
+pub spread_alike : (g : NormalForm) (t : Trace) (digits : List Bool) → SpreadTo g.signals t.cycles t.lanes digits → (c : ℕ) → c < t.cycles
+    → GivenAlike g (given_from digits c) (given_at t c)
+spread_alike g t digits spread c h = record { signals = λ i p q. spread (i - 1) c (omega arith) h }

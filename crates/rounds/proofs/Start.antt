@@ -1,7 +1,7 @@
 -- What stands before the first round: no row is sure, every row is at its start, and nothing is recorded. Assumes nothing.
 use Prim.Native.Nat.{ℕ, zero, suc, ◌+◌, ◌-◌, ◌*◌, ◌≤◌, ◌<◌}
 use mathlib.Core.Path.{◌≡◌, refl, sym, ap, ap₂, ◌∙◌, fun_ext}
-use mathlib.Core.Bool.{Bool, true, false, ◌&&◌}
+use mathlib.Core.Bool.{Bool, false, ◌&&◌}
 use native.Mathlib.Omega.{arith}
 use lib.Dec.{ltb}
 use lib.ListN.{replicate}
@@ -12,9 +12,9 @@ use Rattle.tables.specs.declared.row.Row.{Row}
 use Rattle.tables.specs.declared.row.Row.TheVariants.{Constant, Signal, Unary, Binary}
 use Rattle.tables.proofs.Places.{replicate_at}
 use Rattle.meaning.specs.Satisfaction.{Table}
-use Rattle.meaning.specs.Pattern.{Pattern, Pattern.now, Pattern.next, Pattern.connective, Pattern.previous, Pattern.temporal, Pattern.past, pattern_of}
+use Rattle.meaning.specs.Pattern.{Pattern, Pattern.now, Pattern.next, Pattern.connective, Pattern.temporal, pattern_of}
 use Rattle.between_rounds.specs.Between.{every_operand, handed, Handed}
-use Rattle.rounds.specs.Rounds.{Columns, start_for, start_of, nothing}
+use Rattle.rounds.specs.Rounds.{Columns, start_for, start_of}
 use Rattle.rounds.specs.Recorded.{RecordedFrom}
 
 -- a row starts anew where nothing is sure
@@ -22,9 +22,7 @@ pattern_start : (p : Pattern) → handed p false false ≡ start_for p
 pattern_start now = refl
 pattern_start next = refl
 pattern_start (connective f) = refl
-pattern_start (previous w) = refl
 pattern_start (temporal f w) = refl
-pattern_start (past f w) = refl
 
 row_start : (r : Row) → handed (pattern_of r) (every_operand (λ k. false) r) false ≡ start_of r
 row_start (Constant c) = refl
@@ -45,13 +43,5 @@ unfolding word_from
 word_none zero i f off = refl
 word_none (suc d) i f off = ap₂ (λ b x. pick b 1 0 + 2 * x) (off i (omega arith)) (word_none d (suc i) f (λ c h. off c (omega arith)))
 
--- words that are 0 have no cycle of any round, and every row off
 pub nothing_recorded : (rows n m : ℕ) (columns : Columns) → RecordedFrom rows n n (replicate m 0) columns
 nothing_recorded rows n m columns k w h l = replicate_at {A = ℕ} m (128 * w + k) 0 ∙ sym (word_none (64 - (n - 64 * w)) (64 * w + (n - 64 * w)) (λ c. ltb c n && columns c (suc k)) (λ c b. ap (λ x. x && columns c (suc k)) (le-ltb c n (omega arith))))
-
-pub off_recorded : (rows n m : ℕ) → RecordedFrom rows n 0 (replicate m 0) nothing
-off_recorded rows n m k w h l = replicate_at {A = ℕ} m (128 * w + k) 0 ∙ sym (word_none (64 - (0 - 64 * w)) (64 * w + (0 - 64 * w)) (λ c. ltb c n && false) (λ c b. by (ltb c n)))
-  where
-    by : (b : Bool) → b && false ≡ false
-    by true = refl
-    by false = refl

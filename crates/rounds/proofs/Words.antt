@@ -1,12 +1,12 @@
 -- The words that a round records, one cycle after the other, and the lanes from them. Assumes nothing.
 use Prim.Native.Nat.{ℕ, suc, ◌+◌, ◌-◌, ◌*◌, ◌/◌, ◌%◌, ◌≤◌, ◌<◌}
 use mathlib.Core.Path.{◌≡◌, refl, ap, ◌∙◌}
-use mathlib.Core.Bool.{Bool, true, false, ◌&&◌}
+use mathlib.Core.Bool.{Bool, false, ◌&&◌}
 use mathlib.Core.List.{List, [], ◌∷◌}
 use native.Mathlib.Nat.{mod-eq_of_lt, lt_of_lt_of_le}
 use native.Mathlib.Omega.{arith}
 use native.Mathlib.Decide.{dec_lt, ℕ_discrete}
-use lib.Dec.{ltb, eqb}
+use lib.Dec.{ltb}
 use lib.Pow.{pow_mono}
 use lib.ListN.{length, get_or, set, replicate, length-set, length-replicate}
 use lib.Seq.{get_or-set_same, get_or-set_other}
@@ -15,11 +15,11 @@ use Rattle.tables.specs.Choice.{pick}
 use Rattle.tables.specs.Place.{tabulate_from}
 use Rattle.tables.specs.Bit.{word_from, lane_of}
 use Rattle.tables.specs.declared.trace.Lane.{Lane}
-use Rattle.tables.proofs.Bits.{word_below, word_bit_lem}
+use Rattle.tables.proofs.Bits.{word_below}
 use Rattle.lanes.specs.Truth.{lane_in, Shows}
 use Rattle.cycle_rows.specs.Cells.{row_cell}
 use Rattle.rounds.specs.Rounds.{Columns}
-use Rattle.rounds.specs.Recorded.{RecordedFrom, bits_in}
+use Rattle.rounds.specs.Recorded.{RecordedFrom}
 
 -- a word with a bit more, below the others: the highest goes
 abbrev pub with_lowest : ℕ → Bool → ℕ
@@ -139,19 +139,3 @@ module _ {words : List ℕ} {k : ℕ} {lanes : List Lane} (inv : LanesTo words k
           let b : 64 * w + 0 ≡ w * 64 = omega arith in
           let x = done j w l v in
           rw e (rw (a, b) at x)
-
--- ---- the bits of words that have all cycles
-pub recorded_bits : (rows n : ℕ) (words : List ℕ) (columns : Columns) → n ≤ 256 → RecordedFrom rows n 0 words columns
-    → (k : ℕ) → k < rows → (c : ℕ) → c < n → bits_in words c (suc k) ≡ columns c (suc k)
-recorded_bits rows n words columns few done k h c l =
-    let w : ℕ = c / 64 in
-    let i : c / 64 * 128 + (suc k - 1) ≡ 128 * w + k = omega arith in
-    let a : 0 - 64 * w ≡ 0 = omega arith in
-    let b : 64 * w + 0 + c % 64 ≡ c = omega arith in
-    let word = done k w h (omega arith) in
-    let f : ℕ → Bool = λ c. ltb c n && columns c (suc k) in
-    rw (i, word, a, word_bit_lem 64 (64 * w + 0) f (c % 64) (omega arith), b, lt-ltb c n l) (one_bit (columns c (suc k)))
-  where
-    one_bit : (b : Bool) → eqb (pick b 1 0) 1 ≡ b
-    one_bit true = refl
-    one_bit false = refl

@@ -1,14 +1,11 @@
 -- The words that a round records, going down: word w of row k + 1 is at 128 * w + k, and the lowest bit
 -- of the word that has the cycle just filled is that cycle. Assumes nothing.
-use Rattle.std.specs.Prelude.{ℕ, suc, ◌+◌, ◌-◌, ◌*◌, ◌/◌, ◌%◌, ◌^◌, ◌≤◌, ◌<◌, ◌≡◌, Bool, true, false, ◌&&◌, List, ltb, eqb, get_or}
+use Rattle.std.specs.Prelude.{ℕ, suc, ◌+◌, ◌-◌, ◌*◌, ◌≤◌, ◌<◌, ◌≡◌, Bool, false, ◌&&◌, List, ltb, get_or}
 use Rattle.tables.specs.Bit.{bit_at, word_from}
 use Rattle.tables.specs.declared.row.NormalForm.{NormalForm}
 use Rattle.tables.specs.declared.trace.Lane.{Lane}
-use Rattle.meaning.specs.Satisfaction.{table_of}
-use Rattle.meaning.specs.Pattern.{pattern_of}
 use Rattle.lanes.specs.Truth.{lane_in}
 use Rattle.cycle_rows.specs.Cycle.{CycleFrom, Given}
-use Rattle.cycle_rows.specs.Back.{looks_back}
 use Rattle.rounds.specs.Rounds.{Columns}
 
 -- the cycles from `from` on of so many rows over n cycles
@@ -16,21 +13,13 @@ abbrev pub RecordedFrom : ℕ → ℕ → ℕ → List ℕ → Columns → Type 
 RecordedFrom rows n from words columns = (k w : ℕ) → k < rows → w < 4
     → get_or words (128 * w + k) 0 ≡ word_from (64 - (from - 64 * w)) (64 * w + (from - 64 * w)) (λ c. ltb c n && columns c (suc k))
 
--- what words have of row k at cycle c
-abbrev pub bits_in : List ℕ → Columns
-bits_in words c k = eqb (get_or words (c / 64 * 128 + (k - 1)) 0 / 2 ^ (c % 64) % 2) 1
-
--- the rows that look back are among the first so many
-abbrev pub BackWithin : NormalForm → ℕ → Type 0
-BackWithin g pasts = (k : ℕ) → k < g.rows → looks_back (pattern_of (table_of g.places (suc k))) ≡ true → k < pasts
-
 -- the signals by cycle: signal s + 1 at cycle c is at 32 * c + s
 abbrev pub SpreadTo : ℕ → ℕ → List Lane → List Bool → Type 0
 SpreadTo signals cycles lanes digits = (s c : ℕ) → s < signals → c < cycles → get_or digits (32 * c + s) false ≡ bit_at (lane_in lanes s) c
 
--- what cycle c is given, by numbers, which count from 1: its signals, and from words its rows that look back
-abbrev pub given_from : List Bool → List ℕ → ℕ → Given
-given_from digits past c = record { signals = λ s. get_or digits (32 * c + (s - 1)) false; past = bits_in past c }
+-- what cycle c is given, by the signals' numbers, which count from 1
+abbrev pub given_from : List Bool → ℕ → Given
+given_from digits c = record { signals = λ s. get_or digits (32 * c + (s - 1)) false }
 
 -- a round goes on from `to` back to `from`: the columns from there on, of which the later ones stood before
 pub record RoundBack (g : NormalForm) (given : ℕ → Given) (n from to : ℕ) (later : Columns)

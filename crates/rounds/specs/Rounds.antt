@@ -1,6 +1,5 @@
--- A looped take's truth, cycle by cycle from the end, in rounds (02, request 5); the rows that look back, forward (02, request 6). Assumes
--- nothing.
-use Rattle.std.specs.Prelude.{ℕ, suc, ◌≤◌, ◌<◌, ◌≡◌, ◌⊎◌, Bool, true, false, List, eqb}
+-- A looped take's truth, cycle by cycle from the end, in rounds (02, request 5). Assumes nothing.
+use Rattle.std.specs.Prelude.{ℕ, suc, ◌≤◌, ◌<◌, ◌≡◌, ◌⊎◌, Bool, false, List, eqb}
 use Rattle.tables.specs.Choice.{pick}
 use Rattle.tables.specs.declared.row.Row.{Row}
 use Rattle.tables.specs.declared.row.NormalForm.{NormalForm}
@@ -10,20 +9,16 @@ use Rattle.meaning.specs.Trace.{signal_at}
 use Rattle.meaning.specs.Satisfaction.{table_of}
 use Rattle.meaning.specs.Rows.{Each}
 use Rattle.meaning.specs.Nesting.{nesting}
-use Rattle.meaning.specs.Pattern.{Pattern, Pattern.now, Pattern.next, Pattern.connective, Pattern.previous, Pattern.temporal, Pattern.past, pattern_of}
-use Rattle.meaning.specs.Approximant.{earlier}
+use Rattle.meaning.specs.Pattern.{Pattern, Pattern.now, Pattern.next, Pattern.connective, Pattern.temporal, pattern_of}
 use Rattle.lanes.specs.Truth.{lane_in, Shows}
 use Rattle.cycle_rows.specs.Cycle.{CycleFrom, Given}
-use Rattle.cycle_rows.specs.Back.{looks_back, row_back}
 
 -- where a row starts behind the last cycle: one of until and its like from what holds if its goal is never met, any other from 0
 abbrev pub start_for : Pattern → Bool
 start_for now = false
 start_for next = false
 start_for (connective f) = false
-start_for (previous w) = false
 start_for (temporal f w) = w
-start_for (past f w) = false
 
 abbrev pub start_of : Row → Bool
 start_of r = start_for (pattern_of r)
@@ -32,14 +27,12 @@ start_of r = start_for (pattern_of r)
 abbrev pub Columns : Type 0
 Columns = ℕ → ℕ → Bool
 
--- counts that rise along each branch with every row that looks ahead or back
+-- counts that rise along each branch with every row that looks ahead
 abbrev pub RisesAt : (ℕ → ℕ) → ℕ → Row → Pattern → Type 0
 RisesAt depth k r now = Each (λ a. depth a ≤ depth k) r
 RisesAt depth k r next = Each (λ a. depth a < depth k) r
 RisesAt depth k r (connective f) = Each (λ a. depth a ≤ depth k) r
-RisesAt depth k r (previous w) = Each (λ a. depth a < depth k) r
 RisesAt depth k r (temporal f w) = Each (λ a. depth a < depth k) r
-RisesAt depth k r (past f w) = Each (λ a. depth a < depth k) r
 
 abbrev pub Rises : NormalForm → (ℕ → ℕ) → Type 0
 Rises g depth = (k : ℕ) → k < g.rows → RisesAt depth (suc k) (table_of g.places (suc k)) (pattern_of (table_of g.places (suc k)))
@@ -49,24 +42,14 @@ Rises g depth = (k : ℕ) → k < g.rows → RisesAt depth (suc k) (table_of g.p
 abbrev pub round_end : NormalForm → ℕ → ℕ
 round_end g l = pick (eqb (nesting g) 0) l 0
 
--- what cycle c of a take is given: its signals, and those of its rows that look back
-abbrev pub given_at : Trace → Columns → ℕ → Given
-given_at t filled c = record { signals = signal_at t c; past = filled c }
-
--- every row off at every cycle
-abbrev pub nothing : Columns
-nothing c k = false
+-- what cycle c of a take is given
+abbrev pub given_at : Trace → ℕ → Given
+given_at t c = record { signals = signal_at t c }
 
 module _ (g : NormalForm) (t : Trace) (l : ℕ) where
-  -- "past rows are filled forward, from their cycle's rows and those one cycle before": `filled` has each row that looks back, from the
-  -- first cycle on, over `rows` as they then stand, so that one which another reads is as it was filled last
-  abbrev pub Forward : Columns → Columns → Type 0
-  Forward rows filled = (k : ℕ) → k < g.rows → looks_back (pattern_of (table_of g.places (suc k))) ≡ true
-      → (c : ℕ) → c < t.cycles → filled c (suc k) ≡ row_back (signal_at t) rows (λ i. filled i (suc k)) (table_of g.places (suc k)) c
-
   -- "cycle by cycle from the end, all rows at each": each cycle from `from` on is filled from what it is given and the rows one cycle on
-  abbrev pub Round : Columns → ℕ → Columns → Type 0
-  Round filled from columns = (c : ℕ) → from ≤ c → c < t.cycles → CycleFrom g (given_at t filled c) (columns (suc c)) (columns c)
+  abbrev pub Round : ℕ → Columns → Type 0
+  Round from columns = (c : ℕ) → from ≤ c → c < t.cycles → CycleFrom g (given_at t c) (columns (suc c)) (columns c)
 
   -- between two rounds no cycle is filled: behind the last cycle comes the loop's as it then stands (`left`), but a row may start anew
   abbrev pub Begins : (ℕ → Bool) → Columns → Type 0
@@ -78,17 +61,13 @@ module _ (g : NormalForm) (t : Trace) (l : ℕ) where
   pub record ByCycle (rounds : ℕ) (lanes : List Lane) : Type 0 where
     pub columns : ℕ → Columns
     pub some : 1 ≤ rounds
-    -- before each round the rows that look back are filled forward, over the rows as the round before left them; before the first all are
-    -- off
-    pub pasts : ℕ → Columns
-    pub forward : (r : ℕ) → r < rounds → Forward (earlier nothing columns r) (pasts r)
-    pub made : (r : ℕ) → r < rounds → Round (pasts r) (round_end g l) (columns r)
-    pub whole : (r : ℕ) → suc r ≡ rounds → Round (pasts r) 0 (columns r)
+    pub made : (r : ℕ) → r < rounds → Round (round_end g l) (columns r)
+    pub whole : (r : ℕ) → suc r ≡ rounds → Round 0 (columns r)
     -- before the first round the loop's cycle is filled once, from rows that have all just started
     pub entered : ℕ → Bool
-    pub enters : CycleFrom g (given_at t nothing l) (λ k. start_of (table_of g.places k)) entered
+    pub enters : CycleFrom g (given_at t l) (λ k. start_of (table_of g.places k)) entered
     pub first : Begins entered (columns 0)
     pub goes_on : (r : ℕ) → suc r < rounds → Begins (columns r l) (columns (suc r))
     pub answered : (r : ℕ) → suc r ≡ rounds → (k : ℕ) → k < g.rows → Shows t.cycles (lane_in lanes k) (λ c. columns r c (suc k))
-    -- no more than one round above the rows that look ahead or back on one branch
+    -- no more than one round above the rows that look ahead on one branch
     pub few : (depth : ℕ → ℕ) → Rises g depth → (most : ℕ) → ((k : ℕ) → k < g.rows → depth (suc k) ≤ most) → rounds ≤ suc most

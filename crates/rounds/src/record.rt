@@ -4,7 +4,7 @@ ghost use Rattle.tables.specs.Choice.{pick};
 ghost use Rattle.cycle_rows.specs.Cells.{row_cell};
 ghost use Rattle.lanes.specs.Truth.{lane_in, Shows};
 ghost use Rattle.rounds.specs.Rounds.{Columns};
-ghost use Rattle.rounds.specs.Recorded.{RecordedFrom, bits_in};
+ghost use Rattle.rounds.specs.Recorded.{RecordedFrom};
 
 use tables::trace::Lane;
 
@@ -16,7 +16,7 @@ fn with_lowest(word: u64, on: bool) -> u64
 }
 
 // One cycle more of all rows, below those recorded.
-pub fn record(rows: usize, cells: &[bool; 288], cycle: usize, words: &mut [u64; 512])
+pub fn record(rows: usize, cells: &[bool; 160], cycle: usize, words: &mut [u64; 512])
     requires { (rows ≤ 128) × (cycle < 256) }
     ensures recorded { (n : ℕ) (columns : Columns) → cycle < n → RecordedFrom rows n (suc cycle) words.old columns
         → ((k : ℕ) → k < rows → columns cycle (suc k) ≡ row_cell cells.now (suc k))
@@ -30,14 +30,6 @@ pub fn record(rows: usize, cells: &[bool; 288], cycle: usize, words: &mut [u64; 
         all[first + k] = with_lowest(all[first + k], cells[32 + k]);
         k += 1;
     }
-}
-
-// A row, by number, at a cycle.
-pub fn bit_in(words: &[u64; 512], number: usize, cycle: usize) -> bool
-    requires { (1 ≤ number) × (number ≤ 128) × (cycle < 256) }
-    ensures answer { result ≡ bits_in words.now cycle number }
-{
-    (words[cycle / 64 * 128 + (number - 1)] >> (cycle % 64)) % 2 == 1
 }
 
 // The lanes of words that have all cycles.

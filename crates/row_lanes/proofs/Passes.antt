@@ -1,17 +1,16 @@
--- The lanes of until, next, since and previous over an open take. Assumes nothing.
-use Prim.Native.Nat.{ℕ, zero, suc, ◌-◌, ◌≤◌, ◌<◌}
-use mathlib.Core.Path.{◌≡◌, refl, sym, ap, ap₂, ◌∙◌}
+-- The lanes of until and next over an open take. Assumes nothing.
+use Prim.Native.Nat.{ℕ, suc, ◌-◌, ◌≤◌, ◌<◌}
+use mathlib.Core.Path.{◌≡◌, sym, ◌∙◌}
 use mathlib.Core.Bool.{Bool, false}
 use native.Mathlib.Decide.{dec_lt}
 use native.Mathlib.Omega.{arith}
 use lib.Dec.{ltb}
 use borrow.Author.Tests.{lt-ltb, le-ltb}
-use Rattle.tables.specs.Bit.{bit_at, lane_of}
+use Rattle.tables.specs.Bit.{lane_of}
 use Rattle.tables.specs.declared.trace.Lane.{Lane}
-use Rattle.tables.proofs.Bits.{bit_of_lane, lane_ext}
-use Rattle.meaning.specs.Approximant.{expand, approximant, accumulated, earlier}
+use Rattle.tables.proofs.Bits.{lane_ext}
+use Rattle.meaning.specs.Approximant.{approximant}
 use Rattle.meaning.proofs.Streams.{approximant_local}
-use Rattle.meaning.proofs.Accumulated.{accumulated_expands, accumulated_local}
 use Rattle.lanes.specs.Truth.{Shows}
 use Rattle.lanes.proofs.Recordings.{recording_carry}
 use Rattle.lanes.proofs.Shown.{cut, cut_same, cut_ends, shows_alike}
@@ -40,33 +39,3 @@ module _ (n : ℕ) (most : n ≤ 256) where
       by : (i : ℕ) → Dec (suc i < n) → cut n q (suc i) ≡ cut n (next_pass n q) i
       by i (yes h) = rw (lt-ltb i n (omega arith), lt-ltb (suc i) n h)
       by i (no h) = rw (le-ltb (suc i) n (omega arith)) (sym (and_off (ltb i n)))
-
-  -- what lane::accumulate promises
-  abbrev Accumulated : Lane → Lane → Bool → Lane → Type 0
-  Accumulated keep goal w r = (k g : ℕ → Bool) → keep ≡ lane_of k → goal ≡ lane_of g → r ≡ lane_of (accumulated k g w)
-
-  -- keep and goal end with the take, so nothing is carried on behind it
-  pub accumulate_shown : (k g : ℕ → Bool) (w : Bool) {keep goal r : Lane} → Accumulated keep goal w r → Shows n keep k → Shows n goal g → Shows n r (accumulated k g w)
-  accumulate_shown k g w c s t = c (cut n k) (cut n g) s t ∙ lane_ext _ _ (λ i h. by i (dec_lt i n))
-    where
-      by : (i : ℕ) → Dec (i < n) → accumulated (cut n k) (cut n g) w i ≡ cut n (accumulated k g w) i
-      by i (yes h) =
-          accumulated_local (cut n k) (cut n g) w k g i (λ j l. (cut_same n k j (omega arith), cut_same n g j (omega arith)))
-          ∙ sym (cut_same n (accumulated k g w) i h)
-      by i (no h) =
-          accumulated_expands (cut n k) (cut n g) w i
-          ∙ ap₂ (λ x y. expand x y (earlier w (accumulated (cut n k) (cut n g) w) i)) (cut_ends n k i (omega arith)) (cut_ends n g i (omega arith))
-          ∙ sym (cut_ends n (accumulated k g w) i (omega arith))
-
-  -- what lane::previous promises
-  abbrev Earlier : Lane → Bool → Lane → Type 0
-  Earlier lane w r = (f : ℕ → Bool) → lane ≡ lane_of f → r ≡ lane_of (earlier w f)
-
-  -- the last cycle's bit goes on behind it, and is taken off
-  pub previous_shown : (q : ℕ → Bool) (w : Bool) {lane r kept : Lane} → Earlier lane w r → Shows n lane q → Shows n kept (bit_at r) → Shows n kept (earlier w q)
-  previous_shown q w {lane} {r} {kept} l s t =
-      t ∙ shows_alike n _ _ (λ i h. ap (λ (x : Lane). bit_at x i) (l (cut n q) s) ∙ bit_of_lane (earlier w (cut n q)) i (omega arith) ∙ by i h)
-    where
-      by : (i : ℕ) → i < n → earlier w (cut n q) i ≡ earlier w q i
-      by zero h = refl
-      by (suc i) h = cut_same n q i (omega arith)

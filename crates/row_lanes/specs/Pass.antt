@@ -1,13 +1,12 @@
--- What a pass over an open take of n cycles finds for a row, from what its operands are: a pass back, or forward for a row that looks
--- back. Assumes nothing.
+-- What a pass back over an open take of n cycles finds for a row, from what its operands are. Assumes nothing.
 use Rattle.std.specs.Prelude.{ℕ, suc, ◌-◌, ◌≡◌, Bool, false, ltb}
 use Rattle.tables.specs.Bit.{lane_of}
 use Rattle.tables.specs.Choice.{pick}
 use Rattle.tables.specs.declared.row.Row.{Row}
 use Rattle.tables.specs.declared.trace.Lane.{Lane}
-use Rattle.meaning.specs.Pattern.{Pattern, Pattern.now, Pattern.next, Pattern.connective, Pattern.previous, Pattern.temporal, Pattern.past}
+use Rattle.meaning.specs.Pattern.{Pattern, Pattern.now, Pattern.next, Pattern.connective, Pattern.temporal}
 use Rattle.meaning.specs.Pattern.{left, right, pattern_of, connective_bit, keep_bits, goal_bits, operand_bits}
-use Rattle.meaning.specs.Approximant.{approximant, accumulated, earlier}
+use Rattle.meaning.specs.Approximant.{approximant}
 
 module _ (n : ℕ) where
   -- the lane that is on at these cycles alone
@@ -22,14 +21,12 @@ module _ (n : ℕ) where
   next_pass q i = pick (ltb (suc i) n) (q (suc i)) false
 
   -- by the patterns of meaning/specs/Pattern.antt; p and q are the operands. Weak is until, since only what holds behind the end could
-  -- tell them apart. Of rows that look back: "On open takes the strong meaning of these is the plain one over strong operands" (02).
+  -- tell them apart.
   abbrev pub pass_bit : (ℕ → Bool) → (ℕ → Bool) → Pattern → ℕ → Bool
   pass_bit p q now i = q i
   pass_bit p q next i = next_pass q i
   pass_bit p q (connective f) i = connective_bit f (p i) (q i)
-  pass_bit p q (previous w) i = earlier w q i
   pass_bit p q (temporal f w) i = until_pass (keep_bits f p q) (goal_bits f p q) i
-  pass_bit p q (past f w) i = accumulated (keep_bits f p q) (goal_bits f p q) w i
 
   -- over the signals of the recording and the bits of earlier rows, each by cycle
   abbrev pub row_pass : (ℕ → ℕ → Bool) → (ℕ → ℕ → Bool) → Row → ℕ → Bool

@@ -30,7 +30,6 @@ pub fn signal(kind: SignalKind, lane: Lane, all: Lane) -> Lane
 }
 
 // A row with one operand: ever a is until true a. Strong: nothing holds behind the end, so weak is until, and always a is until a false.
-// Likewise once a is since true a, and sofar a is since a false that holds before the first cycle.
 pub fn unary(kind: UnaryKind, a: Lane, all: Lane) -> Lane
     ensures shows { (n : ℕ) (q : ℕ → Bool) → n ≤ 256 → CyclesOf n all → Shows n a q
         → Shows n result (pass_bit n (λ i. unary_left kind) (λ i. signed_bit (positive kind) (q i)) (unary_pattern kind)) }
@@ -40,15 +39,11 @@ pub fn unary(kind: UnaryKind, a: Lane, all: Lane) -> Lane
         UnaryKind::Next => lanes::lane::next(a),
         UnaryKind::Always => lanes::lane::carry(a, lanes::lane::none()),
         UnaryKind::Ever => lanes::lane::carry(all, a),
-        UnaryKind::Before => lanes::lane::both(lanes::lane::previous(a, false), all),
-        UnaryKind::Wbefore => lanes::lane::both(lanes::lane::previous(a, true), all),
-        UnaryKind::Once => lanes::lane::accumulate(all, a, false),
-        UnaryKind::Sofar => lanes::lane::accumulate(a, lanes::lane::none(), true),
     }
 }
 
 // A row with two operands: release a b is weak b (a and b), and srelease a b is until b (a and b). Strong: nothing holds behind the end,
-// so weak is until, and release is srelease. Trigger a b is since b (a and b) that holds before the first cycle.
+// so weak is until, and release is srelease.
 pub fn binary(kind: BinaryKind, a: Lane, b: Lane) -> Lane
     ensures shows { (n : ℕ) (p q : ℕ → Bool) → n ≤ 256 → Shows n a p → Shows n b q
         → Shows n result (pass_bit n p q (binary_pattern kind)) }
@@ -60,7 +55,5 @@ pub fn binary(kind: BinaryKind, a: Lane, b: Lane) -> Lane
         BinaryKind::Until => lanes::lane::carry(a, b),
         BinaryKind::Release => lanes::lane::carry(b, lanes::lane::both(a, b)),
         BinaryKind::Srelease => lanes::lane::carry(b, lanes::lane::both(a, b)),
-        BinaryKind::Since => lanes::lane::accumulate(a, b, false),
-        BinaryKind::Trigger => lanes::lane::accumulate(b, lanes::lane::both(a, b), true),
     }
 }

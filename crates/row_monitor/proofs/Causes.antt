@@ -8,19 +8,16 @@ use Rattle.tables.specs.declared.row.ConstantKind.TheVariants.{True, False}
 use Rattle.tables.specs.declared.row.SignalKind.{SignalKind}
 use Rattle.tables.specs.declared.row.SignalKind.TheVariants.{Sig, Nsig}
 use Rattle.tables.specs.declared.row.UnaryKind.{UnaryKind}
-use Rattle.tables.specs.declared.row.UnaryKind.TheVariants.{Not, Next, Always, Ever, Before, Wbefore, Once, Sofar}
+use Rattle.tables.specs.declared.row.UnaryKind.TheVariants.{Not, Next, Always, Ever}
 use Rattle.tables.specs.declared.row.BinaryKind.{BinaryKind}
-use Rattle.tables.specs.declared.row.BinaryKind.TheVariants.{And, Or, Weak, Until, Release, Srelease, Since, Trigger}
+use Rattle.tables.specs.declared.row.BinaryKind.TheVariants.{And, Or, Weak, Until, Release, Srelease}
 use Rattle.tables.specs.declared.row.Row.{Row}
 use Rattle.tables.specs.declared.row.Row.TheVariants.{Constant, Signal, Unary, Binary}
-use Rattle.meaning.specs.Approximant.{expand}
-use Rattle.meaning.specs.Pattern.{Pattern, Pattern.now, Pattern.next, Pattern.connective, Pattern.previous, Pattern.temporal, Pattern.past}
-use Rattle.meaning.specs.Pattern.{connective_bit, keep_bit, goal_bit}
+use Rattle.meaning.specs.Pattern.{Pattern, Pattern.now, Pattern.next, Pattern.connective, Pattern.temporal, connective_bit}
 use Rattle.monitors.specs.declared.Output.{Output}
 use Rattle.monitors.specs.declared.RowState.{RowState}
-use Rattle.monitors.specs.Monitor.{recalls, constant_monitor, signal_monitor, unary_monitor, binary_monitor, row_monitor}
+use Rattle.monitors.specs.Monitor.{constant_monitor, signal_monitor, unary_monitor, binary_monitor, row_monitor}
 use Rattle.monitors.proofs.ByPattern.{done_bit, need_bit, pattern_monitor, each_pattern}
-use Rattle.row_monitor.specs.Word.{turned}
 
 pub by_both : (z p x : Bool) → ((z || p) && x) ≡ ((z && x) || (p && x))
 by_both true true true = refl
@@ -52,46 +49,37 @@ by_alone true p = refl
 by_alone false true = refl
 by_alone false false = refl
 
-module _ (s : RowState) where
-  abbrev z : Bool
-  z = s.active
+abbrev pub most : RowState
+most = record { active = true; pending = true }
 
-  abbrev p : Bool
-  p = s.pending
-
+module _ (z p : Bool) where
   abbrev FailedBy : (RowState → Output) → Type 0
-  FailedBy m = (m s).failed ≡ ((z && (m (turned true false s)).failed) || (p && (m (turned false true s)).failed))
+  FailedBy m = (m (record { active = z; pending = p })).failed
+      ≡ ((z && (m (record { active = true; pending = false })).failed) || (p && (m (record { active = false; pending = true })).failed))
 
   pattern_failed : (l r : Bool) (x : Pattern) → FailedBy (λ s. pattern_monitor l r s x)
   pattern_failed l r now = by_active z p (not r)
   pattern_failed l r next = by_pending z p (not r)
   pattern_failed l r (connective f) = by_active z p (not (connective_bit f l r))
-  pattern_failed l r (previous w) = by_active z p (not (recalls w s))
   pattern_failed l r (temporal f true) = by_both z p (not (need_bit f l r))
   pattern_failed l r (temporal f false) = by_both z p (not (need_bit f l r))
-  pattern_failed l r (past f w) = by_active z p (not (expand (keep_bit f l r) (goal_bit f l r) (recalls w s)))
 
   pub failed_by : (a b : Bool) (r : Row) → FailedBy (row_monitor r a b)
   failed_by a b r = each_pattern FailedBy pattern_failed r a b
 
   abbrev PendingBy : (RowState → Output) → Type 0
-  PendingBy m = (m s).pending ≡ ((z && (m (turned true false s)).pending) || (p && (m (turned false true s)).pending))
+  PendingBy m = (m (record { active = z; pending = p })).pending
+      ≡ ((z && (m (record { active = true; pending = false })).pending) || (p && (m (record { active = false; pending = true })).pending))
 
   pattern_pending : (l r : Bool) (x : Pattern) → PendingBy (λ s. pattern_monitor l r s x)
   pattern_pending l r now = by_none z p
   pattern_pending l r next = by_alone z p
   pattern_pending l r (connective f) = by_none z p
-  pattern_pending l r (previous w) = by_none z p
   pattern_pending l r (temporal f true) = by_both z p (not (done_bit f l r))
   pattern_pending l r (temporal f false) = by_both z p (not (done_bit f l r))
-  pattern_pending l r (past f w) = by_none z p
 
   pub pending_by : (a b : Bool) (r : Row) → PendingBy (row_monitor r a b)
   pending_by a b r = each_pattern PendingBy pattern_pending r a b
-
--- a row that waits more than any other
-abbrev most : RowState
-most = record { active = true; pending = true; memory = false; initial = false }
 
 -- where a row's monitor accepts while it waits, it always does; where it is not pending, it does
 abbrev Accepts : (Bool → Bool → RowState → Output) → Bool → Bool → RowState → Type 0
@@ -111,10 +99,6 @@ unary_accepts Next a b s h = refl
 unary_accepts Always a b s h = refl
 unary_accepts Ever a b s (inl e) = absurd (true≢false (sym e))
 unary_accepts Ever a b s (inr e) = ap not e
-unary_accepts Before a b s h = refl
-unary_accepts Wbefore a b s h = refl
-unary_accepts Once a b s h = refl
-unary_accepts Sofar a b s h = refl
 
 binary_accepts : (c : BinaryKind) (a b : Bool) (s : RowState) → Accepts (binary_monitor c) a b s
 binary_accepts And a b s h = refl
@@ -125,8 +109,6 @@ binary_accepts Until a b s (inr e) = ap not e
 binary_accepts Release a b s h = refl
 binary_accepts Srelease a b s (inl e) = absurd (true≢false (sym e))
 binary_accepts Srelease a b s (inr e) = ap not e
-binary_accepts Since a b s h = refl
-binary_accepts Trigger a b s h = refl
 
 pub accepts : (r : Row) (a b : Bool) (s : RowState) → Accepts (row_monitor r) a b s
 accepts (Constant c) = constant_accepts c

@@ -1,5 +1,4 @@
 pub mod Causes
 pub mod ReportLoop
 pub mod WordLaws
-pub mod PastWords
 pub mod WordLoop

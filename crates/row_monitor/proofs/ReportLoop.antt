@@ -1,13 +1,13 @@
 -- The loop along the take for one row. Assumes nothing.
-use Prim.Native.Nat.{ℕ, zero, suc, ◌+◌, ◌≤◌, ◌<◌}
-use mathlib.Core.Path.{◌≡◌, refl, sym, ap, ap₂, subst, subst⁻¹, ◌∙◌}
+use Prim.Native.Nat.{ℕ, suc, ◌+◌, ◌≤◌, ◌<◌}
+use mathlib.Core.Path.{◌≡◌, refl, sym, ap, subst, subst⁻¹, ◌∙◌}
 use mathlib.Core.Logic.{◌⊎◌, inl, inr}
 use mathlib.Core.Bool.{Bool, true, false, ◌&&◌, ◌||◌, true≢false}
 use native.Mathlib.Nat.{eq-or-lt_of_le}
 use native.Mathlib.Numerals.{add-one}
 use native.Mathlib.Omega.{arith}
-use lib.Dec.{ltb, leb, eqb}
-use borrow.Author.Tests.{le-leb, leb-true, ne_eqb}
+use lib.Dec.{ltb, leb}
+use borrow.Author.Tests.{le-leb, leb-true}
 use Rattle.tables.specs.Choice.{pick}
 use Rattle.tables.specs.Bit.{bit_at}
 use Rattle.tables.specs.declared.row.Row.{Row}
@@ -15,12 +15,11 @@ use Rattle.meaning.specs.Trace.{position}
 use Rattle.meaning.proofs.Readings.{on_and_off}
 use Rattle.meaning.proofs.Periodic.{position_below}
 use Rattle.monitors.specs.declared.Output.{Output}
-use Rattle.monitors.specs.declared.RowState.{RowState}
 use Rattle.monitors.specs.Monitor.{row_monitor}
 use Rattle.row_monitor.specs.declared.row.Course.{Course}
 use Rattle.row_monitor.specs.declared.row.Reads.{Reads}
 use Rattle.row_monitor.specs.declared.row.RowReport.{RowReport}
-use Rattle.row_monitor.specs.RowReport.{row_in, CourseOf, AcceptedTo, course_row, course_output, RowReportOf}
+use Rattle.row_monitor.specs.RowReport.{row_pending, CourseOf, AcceptedTo, course_output, course_pending, RowReportOf}
 
 pub or_cases : (x y : Bool) → (x || y) ≡ true → (x ≡ true) ⊎ (y ≡ true)
 or_cases true y e = inl refl
@@ -38,53 +37,35 @@ and_one : (x y : Bool) → (x && y) ≡ false → y ≡ true → x ≡ false
 and_one true y e h = on_and_off h e
 and_one false y e h = refl
 
--- the row itself in cycle i, which is the take's cycle c, from what is handed on to it; the mark is on in the first cycle alone
-abbrev pub state_from : Reads → ℕ → ℕ → Bool → Bool → RowState
-state_from reads i c pending memory = record { active = bit_at reads.active c; pending = pending; memory = memory; initial = eqb i 0 }
-
 module _ (row : Row) (reads : Reads) (course : Course) where
-  abbrev at : ℕ → ℕ
-  at = position course.cycles course.start
-
-  pub row_state_lem : (i : ℕ) → course_row row reads course i
-      ≡ state_from reads i (at i) (course_row row reads course i).pending (course_row row reads course i).memory
-  unfolding row_in
-  row_state_lem zero = refl
-  row_state_lem (suc i) = rw (ne_eqb (suc i) 0 (λ e. omega arith)) refl
-
-  -- the first i cycles are gone through, none of them failed; c is the take's cycle in which cycle i is, and memory what the row remembers
-  pub record ReportTo (i c : ℕ) (memory : Bool) (report : RowReport) : Type 0 where
+  -- the first i cycles are gone through, none of them failed; c is the take's cycle in which cycle i is
+  pub record ReportTo (i c : ℕ) (report : RowReport) : Type 0 where
     pub within : i ≤ course.end
     pub at : c ≡ position course.cycles course.start i
     pub unfailed : report.failed ≡ course.end
     pub clean : (j : ℕ) → j < i → (course_output row reads course j).failed ≡ false
-    pub pending : report.pending ≡ (course_row row reads course i).pending
-    pub remembered : memory ≡ (course_row row reads course i).memory
+    pub pending : report.pending ≡ course_pending row reads course i
     pub accepted : AcceptedTo row reads course i report.accepted
 
-  pub report_start : ReportTo 0 0 false (record { failed = course.end; pending = false; accepted = false })
-  unfolding position row_in
+  pub report_start : ReportTo 0 0 (record { failed = course.end; pending = false; accepted = false })
+  unfolding position row_pending
   report_start = record {
     within = omega arith;
     at = refl;
     unfailed = refl;
     clean = λ j h. absurd (omega arith);
     pending = refl;
-    remembered = refl;
     accepted = record { seen = λ e. absurd (true≢false (sym e)); unseen = λ e j a b. absurd (omega arith) };
   }
 
-  pub cycle_small : {i c : ℕ} {memory : Bool} {report : RowReport} → CourseOf course → ReportTo i c memory report → c < 256
+  pub cycle_small : {i c : ℕ} {report : RowReport} → CourseOf course → ReportTo i c report → c < 256
   cycle_small {i} ok r = rw r.at (omega (arith, ok.most, position_below course.cycles course.start ok.start i))
 
-  module _ {i c : ℕ} {memory : Bool} {report : RowReport} (r : ReportTo i c memory report) (h : i < course.end)
-      {said : Output} (e : said ≡ row_monitor row (bit_at reads.first c) (bit_at reads.second c) (state_from reads i c report.pending memory)) where
+  module _ {i c : ℕ} {report : RowReport} (r : ReportTo i c report) (h : i < course.end)
+      {said : Output} (e : said ≡ row_monitor row (bit_at reads.first c) (bit_at reads.second c) (record { active = bit_at reads.active c; pending = report.pending })) where
     -- what is said is what the row's monitor says at cycle i
     here : said ≡ course_output row reads course i
-    here =
-        e ∙ ap (λ n. row_monitor row (bit_at reads.first n) (bit_at reads.second n) (state_from reads i n report.pending memory)) r.at
-        ∙ ap₂ (λ p m. row_monitor row (bit_at reads.first (at i)) (bit_at reads.second (at i)) (state_from reads i (at i) p m)) r.pending r.remembered
-        ∙ ap (row_monitor row (bit_at reads.first (at i)) (bit_at reads.second (at i))) (sym (row_state_lem i))
+    here = e ∙ rw (r.at, r.pending)
 
     pub report_fails : said.failed ≡ true → RowReportOf row reads course (record { failed = i; pending = report.pending; accepted = report.accepted })
     report_fails f = record {
@@ -96,15 +77,14 @@ module _ (row : Row) (reads : Reads) (course : Course) where
     }
 
     pub report_goes : {c' : ℕ} → said.failed ≡ false → c' ≡ pick (ltb (suc c) course.cycles) (suc c) course.start
-        → ReportTo (i + 1) c' said.memory (record { failed = report.failed; pending = said.pending; accepted = report.accepted || (said.accept && leb course.from i) })
-    unfolding position row_in
+        → ReportTo (i + 1) c' (record { failed = report.failed; pending = said.pending; accepted = report.accepted || (said.accept && leb course.from i) })
+    unfolding position row_pending
     report_goes {c'} f next = record {
       within = omega arith;
       at = next ∙ rw (r.at, add-one i);
       unfailed = r.unfailed;
       clean = λ j l. clean j (eq-or-lt_of_le (below j l));
-      pending = ap (λ (x : Output). x.pending) here ∙ ap (λ n. (course_row row reads course n).pending) (sym (add-one i));
-      remembered = ap (λ (x : Output). x.memory) here ∙ ap (λ n. (course_row row reads course n).memory) (sym (add-one i));
+      pending = ap (λ (x : Output). x.pending) here ∙ ap (course_pending row reads course) (sym (add-one i));
       accepted = record { seen = seen; unseen = λ q j a b. unseen q j a (eq-or-lt_of_le (below j b)) };
     }
       where
@@ -132,13 +112,13 @@ module _ (row : Row) (reads : Reads) (course : Course) where
         unseen q j a (inl m) = subst⁻¹ (λ x. (course_output row reads course x).accept ≡ false) m (sym accept ∙ and_one said.accept (leb course.from i) (or_none report.accepted _ q).1 (le-leb course.from i (omega arith)))
         unseen q j a (inr l) = r.accepted.unseen (or_none report.accepted _ q).0 j a l
 
-  pub report_ends : {i c : ℕ} {memory : Bool} {report : RowReport} → ReportTo i c memory report → course.end ≤ i → RowReportOf row reads course report
-  report_ends {i} {c} {memory} {report} r l =
+  pub report_ends : {i c : ℕ} {report : RowReport} → ReportTo i c report → course.end ≤ i → RowReportOf row reads course report
+  report_ends {i} {c} {report} r l =
       let e : i ≡ course.end = omega (arith, r.within) in
       record {
         within = omega (arith, r.unfailed);
         clean = λ j h. r.clean j (omega (arith, r.unfailed));
         fails = λ h. absurd (omega (arith, r.unfailed));
-        ends = λ q. r.pending ∙ ap (λ n. (course_row row reads course n).pending) e;
+        ends = λ q. r.pending ∙ ap (course_pending row reads course) e;
         accepts = λ q. subst (λ m. AcceptedTo row reads course m report.accepted) e r.accepted;
       }

@@ -1,5 +1,5 @@
 -- Words of 64 cycles: negation, one bit, any bit, and the words of a monitor's moves. Assumes nothing.
-use Prim.Native.Nat.{ℕ, zero, suc, ◌+◌, ◌-◌, ◌*◌, ◌/◌, ◌%◌, ◌^◌, ◌≤◌}
+use Prim.Native.Nat.{ℕ, zero, suc, ◌+◌, ◌-◌, ◌*◌, ◌/◌, ◌%◌, ◌≤◌}
 use mathlib.Core.Path.{◌≡◌, refl, sym, ap, ap₂, ◌∙◌}
 use mathlib.Core.Logic.{◌⊎◌, inl, inr}
 use mathlib.Core.Bool.{Bool, true, false, not, ◌&&◌, ◌||◌}
@@ -14,14 +14,12 @@ use Rattle.tables.specs.Bit.{bit_at, word_from}
 use Rattle.tables.specs.declared.row.Row.{Row}
 use Rattle.tables.specs.declared.trace.Lane.{Lane}
 use Rattle.tables.proofs.Bits.{word_ext}
-use Rattle.lanes.proofs.Words.{word_odd, word_end, word_and, word_or, word_every, word_without}
+use Rattle.lanes.proofs.Words.{word_odd, word_and, word_or, word_every, word_without}
 use Rattle.lanes.proofs.Masks.{word_bit, word_masked}
 use Rattle.meaning.specs.Approximant.{approximant}
-use Rattle.monitors.specs.declared.RowState.{RowState}
-use Rattle.monitors.specs.Monitor.{row_monitor}
 use Rattle.row_monitor.specs.declared.row.Course.{Course}
 use Rattle.row_monitor.specs.declared.word.Moves.{Moves}
-use Rattle.row_monitor.specs.Word.{some, accepts_pending, when_active, when_pending, MovesOf, dropped, held, failing, staying, WholeWord}
+use Rattle.row_monitor.specs.Word.{some, when_active, when_pending, MovesOf, dropped, held, failing, staying, WholeWord}
 use Rattle.row_monitor.proofs.ReportLoop.{or_cases, and_both}
 
 -- every bit
@@ -76,35 +74,24 @@ word_of_lane l q =
     and_true true = refl
     and_true false = refl
 
-pub word_last : (w b : ℕ) (f : ℕ → Bool) → w ≡ word_from 64 b f → eqb (w / 2 ^ 63) 1 ≡ f (b + 63)
-word_last w b f e = rw (e, word_end b f) (by (f (b + 63)))
-  where
-    by : (x : Bool) → eqb (pick x 1 0) 1 ≡ x
-    by true = refl
-    by false = refl
-
 -- ---- the moves of a monitor that reads its activator alone, and of one for which an activator and a pending are the same
 
-module _ {row : Row} {f g : ℕ → Bool} {k : ℕ → RowState} {b : ℕ} where
-  pub moves_check : {fails keeps : ℕ} {m : Moves} → m ≡ record { fails = fails; waits = 0; drops = 0; holds = 0; keeps = keeps; accepts = true }
-      → fails ≡ word_from 64 b (λ i. (when_active row (f i) (g i) (k i)).failed)
-      → 0 ≡ word_from 64 b (λ i. (when_active row (f i) (g i) (k i)).pending)
-      → 0 ≡ word_from 64 b (λ i. (when_pending row (f i) (g i) (k i)).failed)
-      → 0 ≡ word_from 64 b (λ i. (when_pending row (f i) (g i) (k i)).pending)
-      → keeps ≡ word_from 64 b (λ i. (row_monitor row (f i) (g i) (k i)).memory)
-      → true ≡ accepts_pending row
-      → MovesOf row f g k b m
-  moves_check e p q r s t a = rw e (record { fails = p; waits = q; drops = r; holds = s; keeps = t; accepts = a })
+module _ {row : Row} {f g : ℕ → Bool} {b : ℕ} where
+  pub moves_check : {fails : ℕ} {m : Moves} → m ≡ record { fails = fails; waits = 0; drops = 0; holds = 0 }
+      → fails ≡ word_from 64 b (λ i. (when_active row (f i) (g i)).failed)
+      → 0 ≡ word_from 64 b (λ i. (when_active row (f i) (g i)).pending)
+      → 0 ≡ word_from 64 b (λ i. (when_pending row (f i) (g i)).failed)
+      → 0 ≡ word_from 64 b (λ i. (when_pending row (f i) (g i)).pending)
+      → MovesOf row f g b m
+  moves_check e p q r s = rw e (record { fails = p; waits = q; drops = r; holds = s })
 
-  pub moves_go : {fails waits : ℕ} {accepts : Bool} {m : Moves} → m ≡ record { fails = fails; waits = waits; drops = fails; holds = waits; keeps = 0; accepts = accepts }
-      → fails ≡ word_from 64 b (λ i. (when_active row (f i) (g i) (k i)).failed)
-      → waits ≡ word_from 64 b (λ i. (when_active row (f i) (g i) (k i)).pending)
-      → fails ≡ word_from 64 b (λ i. (when_pending row (f i) (g i) (k i)).failed)
-      → waits ≡ word_from 64 b (λ i. (when_pending row (f i) (g i) (k i)).pending)
-      → 0 ≡ word_from 64 b (λ i. (row_monitor row (f i) (g i) (k i)).memory)
-      → accepts ≡ accepts_pending row
-      → MovesOf row f g k b m
-  moves_go e p q r s t a = rw e (record { fails = p; waits = q; drops = r; holds = s; keeps = t; accepts = a })
+  pub moves_go : {fails waits : ℕ} {m : Moves} → m ≡ record { fails = fails; waits = waits; drops = fails; holds = waits }
+      → fails ≡ word_from 64 b (λ i. (when_active row (f i) (g i)).failed)
+      → waits ≡ word_from 64 b (λ i. (when_active row (f i) (g i)).pending)
+      → fails ≡ word_from 64 b (λ i. (when_pending row (f i) (g i)).failed)
+      → waits ≡ word_from 64 b (λ i. (when_pending row (f i) (g i)).pending)
+      → MovesOf row f g b m
+  moves_go e p q r s = rw e (record { fails = p; waits = q; drops = r; holds = s })
 
 -- ---- the next 64 cycles are a word
 
@@ -127,23 +114,23 @@ whole_word c i course h =
 
 -- ---- the words of a whole report
 
-module _ (row : Row) (f g : ℕ → Bool) (k : ℕ → RowState) (b : ℕ) where
-  pub dropped_end : 0 % 2 ≡ pick (dropped row f g k (b + 64) (b + 64)) 1 0
+module _ (row : Row) (f g : ℕ → Bool) (b : ℕ) where
+  pub dropped_end : 0 % 2 ≡ pick (dropped row f g (b + 64) (b + 64)) 1 0
   unfolding approximant
   dropped_end = let q : b + 64 - (b + 64) ≡ 0 = omega arith in rw q refl
 
-  pub held_end : 1 % 2 ≡ pick (held row f g k (b + 64) (b + 64)) 1 0
+  pub held_end : 1 % 2 ≡ pick (held row f g (b + 64) (b + 64)) 1 0
   unfolding approximant
   held_end = let q : b + 64 - (b + 64) ≡ 0 = omega arith in rw q refl
 
-module _ {row : Row} {f g : ℕ → Bool} {k : ℕ → RowState} {b word x : ℕ} {m : Moves} (z : ℕ → Bool) (zs : word ≡ word_from 64 b z) (ms : MovesOf row f g k b m) where
-  pub failing_word : x ≡ word_from 64 b (λ i. dropped row f g k (b + 64) (suc i)) → bit_and word (bit_or m.fails (bit_and m.waits x)) ≡ word_from 64 b (λ i. z i && failing row f g k (b + 64) i)
+module _ {row : Row} {f g : ℕ → Bool} {b word x : ℕ} {m : Moves} (z : ℕ → Bool) (zs : word ≡ word_from 64 b z) (ms : MovesOf row f g b m) where
+  pub failing_word : x ≡ word_from 64 b (λ i. dropped row f g (b + 64) (suc i)) → bit_and word (bit_or m.fails (bit_and m.waits x)) ≡ word_from 64 b (λ i. z i && failing row f g (b + 64) i)
   failing_word xs =
-      ap₂ bit_and zs (ap₂ bit_or ms.fails (ap₂ bit_and ms.waits xs ∙ word_and 64 b (λ i. (when_active row (f i) (g i) (k i)).pending) (λ i. dropped row f g k (b + 64) (suc i)))
-      ∙ word_or 64 b (λ i. (when_active row (f i) (g i) (k i)).failed) (λ i. (when_active row (f i) (g i) (k i)).pending && dropped row f g k (b + 64) (suc i)))
-      ∙ word_and 64 b z (failing row f g k (b + 64))
+      ap₂ bit_and zs (ap₂ bit_or ms.fails (ap₂ bit_and ms.waits xs ∙ word_and 64 b (λ i. (when_active row (f i) (g i)).pending) (λ i. dropped row f g (b + 64) (suc i)))
+      ∙ word_or 64 b (λ i. (when_active row (f i) (g i)).failed) (λ i. (when_active row (f i) (g i)).pending && dropped row f g (b + 64) (suc i)))
+      ∙ word_and 64 b z (failing row f g (b + 64))
 
-  pub staying_word : x ≡ word_from 64 b (λ i. held row f g k (b + 64) (suc i)) → bit_and word (bit_and m.waits x) ≡ word_from 64 b (λ i. z i && staying row f g k (b + 64) i)
+  pub staying_word : x ≡ word_from 64 b (λ i. held row f g (b + 64) (suc i)) → bit_and word (bit_and m.waits x) ≡ word_from 64 b (λ i. z i && staying row f g (b + 64) i)
   staying_word xs =
-      ap₂ bit_and zs (ap₂ bit_and ms.waits xs ∙ word_and 64 b (λ i. (when_active row (f i) (g i) (k i)).pending) (λ i. held row f g k (b + 64) (suc i)))
-      ∙ word_and 64 b z (staying row f g k (b + 64))
+      ap₂ bit_and zs (ap₂ bit_and ms.waits xs ∙ word_and 64 b (λ i. (when_active row (f i) (g i)).pending) (λ i. held row f g (b + 64) (suc i)))
+      ∙ word_and 64 b z (staying row f g (b + 64))

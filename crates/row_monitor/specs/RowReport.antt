@@ -4,25 +4,20 @@ use Rattle.tables.specs.Bit.{bit_at}
 use Rattle.tables.specs.declared.row.Row.{Row}
 use Rattle.meaning.specs.Trace.{position}
 use Rattle.monitors.specs.declared.Output.{Output}
-use Rattle.monitors.specs.declared.RowState.{RowState}
 use Rattle.monitors.specs.Monitor.{row_monitor}
 use Rattle.row_monitor.specs.declared.row.Course.{Course}
 use Rattle.row_monitor.specs.declared.row.Reads.{Reads}
 use Rattle.row_monitor.specs.declared.row.RowReport.{RowReport}
 
--- the row itself in the next cycle: it is active or not, and has its pending and its memory from what its monitor has said
-abbrev pub handed_on : Output → Bool → RowState
-handed_on said active = record { active = active; pending = said.pending; memory = said.memory; initial = false }
-
 -- the row is active, and what stands at its numbers, in each cycle
 module _ (row : Row) (active first second : ℕ → Bool) where
-  -- the row itself in cycle i, from a fresh start: pending and memory 0, the mark on
-  unfoldable pub row_in : ℕ → RowState
-  row_in zero = record { active = active 0; pending = false; memory = false; initial = true }
-  row_in (suc i) = handed_on (row_monitor row (first i) (second i) (row_in i)) (active (suc i))
+  -- its pending before cycle i, 0 at first
+  unfoldable pub row_pending : ℕ → Bool
+  row_pending zero = false
+  row_pending (suc i) = (row_monitor row (first i) (second i) (record { active = active i; pending = row_pending i })).pending
 
   abbrev pub row_output : ℕ → Output
-  row_output i = row_monitor row (first i) (second i) (row_in i)
+  row_output i = row_monitor row (first i) (second i) (record { active = active i; pending = row_pending i })
 
 -- a course over the cycles of a recording
 pub record CourseOf (course : Course) : Type 0 where
@@ -35,13 +30,12 @@ abbrev pub along : Course → (ℕ → Bool) → ℕ → Bool
 along course f i = f (position course.cycles course.start i)
 
 module _ (row : Row) (reads : Reads) (course : Course) where
-  -- the row itself in cycle i of the course, and what its monitor says there
-  abbrev pub course_row : ℕ → RowState
-  course_row i = row_in row (along course (bit_at reads.active)) (along course (bit_at reads.first))
-      (along course (bit_at reads.second)) i
-
   abbrev pub course_output : ℕ → Output
   course_output i = row_output row (along course (bit_at reads.active)) (along course (bit_at reads.first))
+      (along course (bit_at reads.second)) i
+
+  abbrev pub course_pending : ℕ → Bool
+  course_pending i = row_pending row (along course (bit_at reads.active)) (along course (bit_at reads.first))
       (along course (bit_at reads.second)) i
 
   -- some accept of the cycles that count, up to i
@@ -53,5 +47,5 @@ module _ (row : Row) (reads : Reads) (course : Course) where
     pub within : r.failed ≤ course.end
     pub clean : (i : ℕ) → i < r.failed → (course_output i).failed ≡ false
     pub fails : r.failed < course.end → (course_output r.failed).failed ≡ true
-    pub ends : r.failed ≡ course.end → r.pending ≡ (course_row course.end).pending
+    pub ends : r.failed ≡ course.end → r.pending ≡ course_pending course.end
     pub accepts : r.failed ≡ course.end → AcceptedTo course.end r.accepted

@@ -1,10 +1,9 @@
 -- The monitor of one row in the 64 cycles of a word at once. Assumes nothing.
-use Rattle.std.specs.Prelude.{ℕ, zero, suc, ◌+◌, ◌-◌, ◌%◌, ◌≤◌, ◌<◌, ◌≡◌, Bool, true, false, not, ◌&&◌, ◌||◌, ◌⊎◌}
+use Rattle.std.specs.Prelude.{ℕ, zero, suc, ◌+◌, ◌-◌, ◌%◌, ◌≤◌, ◌≡◌, Bool, true, false, not, ◌&&◌, ◌||◌, ◌⊎◌}
 use Rattle.tables.specs.Bit.{bit_at, word_from}
 use Rattle.tables.specs.declared.row.Row.{Row}
 use Rattle.meaning.specs.Approximant.{approximant}
 use Rattle.monitors.specs.declared.Output.{Output}
-use Rattle.monitors.specs.declared.RowState.{RowState}
 use Rattle.monitors.specs.Monitor.{row_monitor}
 use Rattle.row_monitor.specs.declared.row.Course.{Course}
 use Rattle.row_monitor.specs.declared.row.Reads.{Reads}
@@ -16,74 +15,47 @@ unfoldable pub some : ℕ → ℕ → (ℕ → Bool) → Bool
 some zero b f = false
 some (suc n) b f = f b || some n (suc b) f
 
--- the row's monitor accepts though it is pending: so it does where no row waits more
-abbrev pub accepts_pending : Row → Bool
-accepts_pending r = (row_monitor r false false (record { active = true; pending = true; memory = false; initial = false })).accept
-
--- the row itself, but active or not, and pending or not
-abbrev pub turned : Bool → Bool → RowState → RowState
-turned z p s = record { active = z; pending = p; memory = s.memory; initial = s.initial }
-
 -- what a row's monitor says where the row is active and was not pending, and where it is not active and was pending
-abbrev pub when_active : Row → Bool → Bool → RowState → Output
-when_active r a b s = row_monitor r a b (turned true false s)
+abbrev pub when_active : Row → Bool → Bool → Output
+when_active r a b = row_monitor r a b (record { active = true; pending = false })
 
-abbrev pub when_pending : Row → Bool → Bool → RowState → Output
-when_pending r a b s = row_monitor r a b (turned false true s)
+abbrev pub when_pending : Row → Bool → Bool → Output
+when_pending r a b = row_monitor r a b (record { active = false; pending = true })
 
--- f and g stand at the row's numbers, and k is the row itself, in each cycle
-module _ (row : Row) (f g : ℕ → Bool) (k : ℕ → RowState) where
-  -- in the 64 cycles from b on memory is handed on, from this memory and mark in the first of them
-  pub record InWord (b : ℕ) (memory initial : Bool) : Type 0 where
-    pub first_memory : (k b).memory ≡ memory
-    pub first_mark : (k b).initial ≡ initial
-    pub memories : (i : ℕ) → b ≤ i → suc i < b + 64 → (k (suc i)).memory ≡ (row_monitor row (f i) (g i) (k i)).memory
-    pub marks : (i : ℕ) → b ≤ i → suc i < b + 64 → (k (suc i)).initial ≡ false
+-- the same in each of the 64 cycles from b on, f and g standing at the row's numbers
+pub record MovesOf (row : Row) (f g : ℕ → Bool) (b : ℕ) (m : Moves) : Type 0 where
+  pub fails : m.fails ≡ word_from 64 b (λ i. (when_active row (f i) (g i)).failed)
+  pub waits : m.waits ≡ word_from 64 b (λ i. (when_active row (f i) (g i)).pending)
+  pub drops : m.drops ≡ word_from 64 b (λ i. (when_pending row (f i) (g i)).failed)
+  pub holds : m.holds ≡ word_from 64 b (λ i. (when_pending row (f i) (g i)).pending)
 
-  -- what the monitor does in each of them
-  pub record MovesOf (b : ℕ) (m : Moves) : Type 0 where
-    pub fails : m.fails ≡ word_from 64 b (λ i. (when_active row (f i) (g i) (k i)).failed)
-    pub waits : m.waits ≡ word_from 64 b (λ i. (when_active row (f i) (g i) (k i)).pending)
-    pub drops : m.drops ≡ word_from 64 b (λ i. (when_pending row (f i) (g i) (k i)).failed)
-    pub holds : m.holds ≡ word_from 64 b (λ i. (when_pending row (f i) (g i) (k i)).pending)
-    pub keeps : m.keeps ≡ word_from 64 b (λ i. (row_monitor row (f i) (g i) (k i)).memory)
-    pub accepts : m.accepts ≡ accepts_pending row
+module _ (row : Row) (f g : ℕ → Bool) (e : ℕ) where
+  -- a monitor that was pending before cycle i: it fails below cycle e; it is still pending there
+  abbrev pub dropped : ℕ → Bool
+  dropped i = approximant (λ j. (when_pending row (f j) (g j)).pending) (λ j. (when_pending row (f j) (g j)).failed) false (e - i) i
 
-  module _ (e : ℕ) where
-    -- a monitor that was pending before cycle i: it fails below cycle e; it is still pending there
-    abbrev pub dropped : ℕ → Bool
-    dropped i = approximant (λ j. (when_pending row (f j) (g j) (k j)).pending) (λ j. (when_pending row (f j) (g j) (k j)).failed) false
-        (e - i) i
+  abbrev pub held : ℕ → Bool
+  held i = approximant (λ j. (when_pending row (f j) (g j)).pending) (λ j. false) true (e - i) i
 
-    abbrev pub held : ℕ → Bool
-    held i = approximant (λ j. (when_pending row (f j) (g j) (k j)).pending) (λ j. false) true (e - i) i
+  -- the same of one whose row is active in cycle i
+  abbrev pub failing : ℕ → Bool
+  failing i = (when_active row (f i) (g i)).failed || ((when_active row (f i) (g i)).pending && dropped (suc i))
 
-    -- the same of one whose row is active in cycle i
-    abbrev pub failing : ℕ → Bool
-    failing i = (when_active row (f i) (g i) (k i)).failed || ((when_active row (f i) (g i) (k i)).pending && dropped (suc i))
+  abbrev pub staying : ℕ → Bool
+  staying i = (when_active row (f i) (g i)).pending && held (suc i)
 
-    abbrev pub staying : ℕ → Bool
-    staying i = (when_active row (f i) (g i) (k i)).pending && held (suc i)
+  -- the n cycles before e, from b on, where z says when the row is active and p whether it was pending before: none of them fails;
+  -- and whether it is pending behind them
+  abbrev pub clean_from : ℕ → ℕ → (ℕ → Bool) → Bool → Bool
+  clean_from n b z p = not (some n b (λ i. z i && failing i)) && not (p && dropped b)
 
-    -- the n cycles before e, from b on, where z says when the row is active and p whether it was pending before: none of them fails;
-    -- and whether it is pending behind them
-    abbrev pub clean_from : ℕ → ℕ → (ℕ → Bool) → Bool → Bool
-    clean_from n b z p = not (some n b (λ i. z i && failing i)) && not (p && dropped b)
+  abbrev pub pending_from : ℕ → ℕ → (ℕ → Bool) → Bool → Bool
+  pending_from n b z p = some n b (λ i. z i && staying i) || (p && held b)
 
-    abbrev pub pending_from : ℕ → ℕ → (ℕ → Bool) → Bool → Bool
-    pending_from n b z p = some n b (λ i. z i && staying i) || (p && held b)
-
--- pending in the last cycle of the word from b on
-abbrev pub behind_word : Row → Reads → (ℕ → RowState) → ℕ → Bool → Bool
-behind_word row reads k b p =
-    pending_from row (bit_at reads.first) (bit_at reads.second) k (b + 64) 64 b (bit_at reads.active) p
-
-unfoldable pub word_report : Row → Reads → (ℕ → RowState) → ℕ → Bool → WordReport
-word_report row reads k b p = record {
-  clean = clean_from row (bit_at reads.first) (bit_at reads.second) k (b + 64) 64 b (bit_at reads.active) p;
-  pending = behind_word row reads k b p;
-  accept = accepts_pending row || not (behind_word row reads k b p);
-  memory = (row_monitor row (bit_at reads.first (b + 63)) (bit_at reads.second (b + 63)) (k (b + 63))).memory;
+unfoldable pub word_report : Row → Reads → ℕ → Bool → WordReport
+word_report row reads b p = record {
+  clean = clean_from row (bit_at reads.first) (bit_at reads.second) (b + 64) 64 b (bit_at reads.active) p;
+  pending = pending_from row (bit_at reads.first) (bit_at reads.second) (b + 64) 64 b (bit_at reads.active) p;
 }
 
 -- the 64 cycles from cycle i of the course on are the word of the recording that begins at c, and either all of them count or none

@@ -68,23 +68,20 @@ pub fn monitor_row(row: Row, reads: Reads, course: Course) -> RowReport
         pending: false,
         accepted: false,
     };
-    let mut memory = false;
+    // no row waits more than this: where it accepts so, it always does
+    let most = RowState {
+        active: true,
+        pending: true,
+    };
+    let waiting = monitors::row(row, false, false, most);
     let mut c = 0u16;
     let mut i = 0u16;
     while i < course.end {
         if whole_word(c, i, course) {
-            let word = word::monitor_word(
-                row,
-                reads,
-                (c / 64) as usize,
-                report.pending,
-                memory,
-                i == 0,
-            );
+            let word = word::monitor_word(row, reads, (c / 64) as usize, report.pending);
             let counts = course.from <= i;
-            if word.clean & (!counts | report.accepted | word.accept) {
+            if word.clean & (!counts | report.accepted | waiting.accept | !word.pending) {
                 report.pending = word.pending;
-                memory = word.memory;
                 report.accepted = report.accepted | counts;
                 c = next_cycle(c + 63, course);
                 i += 64;
@@ -94,8 +91,6 @@ pub fn monitor_row(row: Row, reads: Reads, course: Course) -> RowReport
         let state = RowState {
             active: lanes::lane::bit(reads.active, c as usize),
             pending: report.pending,
-            memory,
-            initial: i == 0,
         };
         let first = lanes::lane::bit(reads.first, c as usize);
         let second = lanes::lane::bit(reads.second, c as usize);
@@ -105,7 +100,6 @@ pub fn monitor_row(row: Row, reads: Reads, course: Course) -> RowReport
             return report;
         }
         report.pending = said.pending;
-        memory = said.memory;
         report.accepted = report.accepted | (said.accept & (course.from <= i));
         c = next_cycle(c, course);
         i += 1;

@@ -4,9 +4,9 @@ use mathlib.Core.Path.{◌≡◌, refl, ap, ap₂, ◌∙◌}
 use native.Mathlib.Omega.{arith}
 use Rattle.tables.specs.declared.row.NormalForm.{NormalForm}
 use Rattle.monitor_circuit.specs.Monitors.{activator_literal, gate_literal, state_literals}
-use Rattle.monitor_circuit.specs.Wiring.{Operands, Wiring, awaits, checks, looks_back, waits}
+use Rattle.monitor_circuit.specs.Wiring.{Operands, Wiring, awaits, checks, waits}
 use Rattle.row_wiring.specs.declared.Own.{Own}
-use Rattle.row_wiring.specs.Own.{Small, later_of, own_of}
+use Rattle.row_wiring.specs.Own.{Small, own_of}
 
 -- what is made of operands that are known
 module _ {w : Wiring} {p q p' q' : Operands} {failed : ℕ} where
@@ -20,54 +20,35 @@ module _ {w : Wiring} {p q r p' q' r' : Operands} {pending failed : ℕ} where
   pub awaits_as : w ≡ awaits p q r pending failed → p ≡ p' → q ≡ q' → r ≡ r' → w ≡ awaits p' q' r' pending failed
   awaits_as e x y z = e ∙ (ap₂ (λ p q. awaits p q r pending failed) x y ∙ ap (λ r. awaits p' q' r pending failed) z)
 
-module _ {w : Wiring} {p q r o p' q' r' o' : Operands} {memory failed : ℕ} where
-  pub looks_back_as : w ≡ looks_back p q r o memory failed → p ≡ p' → q ≡ q' → r ≡ r' → o ≡ o' → w ≡ looks_back p' q' r' o' memory failed
-  looks_back_as e x y z u = e ∙ (ap₂ (λ p q. looks_back p q r o memory failed) x y ∙ ap₂ (λ r o. looks_back p' q' r o memory failed) z u)
-
 module _ (signals rows k : ℕ) where
   -- as the code counts: the gates before the row's are added first
   abbrev pub counted : Own
   counted =
       record {
         activator = 2 * (signals + k);
-        pending = 2 * (signals + rows + k);
-        memory = 2 * (signals + rows + (rows + k));
-        later = later_of signals rows;
-        first = 2 * (signals + rows + (2 * rows + 1) + 4 * (k - 1) + 1);
-        second = 2 * (signals + rows + (2 * rows + 1) + 4 * (k - 1) + 2);
-        third = 2 * (signals + rows + (2 * rows + 1) + 4 * (k - 1) + 3);
-        fourth = 2 * (signals + rows + (2 * rows + 1) + 4 * (k - 1) + 4);
+        latch = 2 * (signals + rows + k);
+        first = 2 * (signals + rows + rows + 3 * (k - 1) + 1);
+        second = 2 * (signals + rows + rows + 3 * (k - 1) + 2);
+        third = 2 * (signals + rows + rows + 3 * (k - 1) + 3);
       }
 
-  gate_at_lem : (j : ℕ) → 2 * (signals + rows + (2 * rows + 1) + 4 * (k - 1) + j) ≡ 2 * (signals + rows + (2 * rows + 1) + (4 * (k - 1) + j))
+  gate_at_lem : (j : ℕ) → 2 * (signals + rows + rows + 3 * (k - 1) + j) ≡ 2 * (signals + rows + rows + (3 * (k - 1) + j))
   gate_at_lem j = omega arith
 
   pub counted_is : counted ≡ own_of signals rows k
-  counted_is = rw (gate_at_lem 1, gate_at_lem 2, gate_at_lem 3, gate_at_lem 4)
+  counted_is = rw (gate_at_lem 1, gate_at_lem 2, gate_at_lem 3)
 
   pub counted_small : signals < 256 → rows < 256 → k ≤ 128 → Small counted
   counted_small s r h =
-      record {
-        activator_small = omega arith;
-        pending_small = omega arith;
-        memory_small = omega arith;
-        later_small = omega arith;
-        first_small = omega arith;
-        second_small = omega arith;
-        third_small = omega arith;
-        fourth_small = omega arith;
-      }
+      record { activator_small = omega arith; latch_small = omega arith; first_small = omega arith; second_small = omega arith }
 
 -- a row's own literals are those of the circuit
 pub own_literals : (g : NormalForm) (k : ℕ)
     → own_of g.signals g.rows k ≡ record {
       activator = activator_literal g k;
-      pending = (state_literals g).pending k;
-      memory = (state_literals g).memory k;
-      later = (state_literals g).initial;
+      latch = (state_literals g).pending k;
       first = gate_literal g 1 k;
       second = gate_literal g 2 k;
       third = gate_literal g 3 k;
-      fourth = gate_literal g 4 k;
     }
 own_literals g k = refl

@@ -1,9 +1,9 @@
 // The gates of one row's monitor, by their literals (docs/CIRCUIT.md).
 ghost use Rattle.std.specs.Prelude.{◌+◌, ◌*◌, ◌≤◌, ◌<◌, ◌≡◌};
-ghost use Rattle.monitor_circuit.specs.Wiring.{awaits as awaitsOf, both as both_of, checks as checksOf, looks_back};
+ghost use Rattle.monitor_circuit.specs.Wiring.{awaits as awaitsOf, both as both_of, checks as checksOf, idle as idleOf};
 ghost use Rattle.monitor_circuit.specs.Wiring.{spare as spare_of, waits as waitsOf};
-ghost use Rattle.row_wiring.specs.Own.{Small, binary_of, constant_of, forgotten_of, idle_of, later_of, operands_as, own_of};
-ghost use Rattle.row_wiring.specs.Own.{recalled_of, signal_of, unary_of, wiring_as, wiring_at};
+ghost use Rattle.monitor_circuit.specs.Wiring.{binary_wiring, constant_wiring, signal_wiring, unary_wiring};
+ghost use Rattle.row_wiring.specs.Own.{Small, operands_as, own_of, wiring_as, wiring_at};
 
 use tables::row::{BinaryKind, ConstantKind, Row, SignalKind, UnaryKind};
 
@@ -14,31 +14,25 @@ pub struct Operands {
     pub rhs1: u32,
 }
 
-// A row's four gates, and the literals of what its monitor says.
+// A row's three gates, and the literals of what its monitor says.
 #[derive(Drop)]
 pub struct Wiring {
     pub first: Operands,
     pub second: Operands,
     pub third: Operands,
-    pub fourth: Operands,
     pub failed: u32,
     pub accept: u32,
     pub pending: u32,
-    pub memory: u32,
 }
 
-// The literals of a row's own variables: its activator, the latches of its pending and its memory, and its gates; and that of the mark's
-// latch, which is on in every cycle but the first.
+// The literals of a row's own variables: its activator, its latch and its gates.
 #[derive(Drop)]
 pub struct Own {
     pub activator: u32,
-    pub pending: u32,
-    pub memory: u32,
-    pub later: u32,
+    pub latch: u32,
     pub first: u32,
     pub second: u32,
     pub third: u32,
-    pub fourth: u32,
 }
 
 fn both(rhs0: u32, rhs1: u32) -> Operands
@@ -57,24 +51,9 @@ fn spare() -> Operands
 // Neither active nor pending.
 fn idle(own: Own) -> Operands
     requires { Small own }
-    ensures answer { operands_as result ≡ idle_of own }
+    ensures answer { operands_as result ≡ idleOf own.activator own.latch own.first own.second own.third }
 {
-    both(own.activator + 1, own.pending + 1)
-}
-
-// What is recalled of the cycle before, where that is false in the first.
-fn recalled(own: Own) -> Operands
-    ensures answer { operands_as result ≡ recalled_of own }
-{
-    both(own.later, own.memory)
-}
-
-// What is recalled negated, where it is true in the first.
-fn forgotten(own: Own) -> Operands
-    requires { Small own }
-    ensures answer { operands_as result ≡ forgotten_of own }
-{
-    both(own.later, own.memory + 1)
+    both(own.activator + 1, own.latch + 1)
 }
 
 // What is not named is: pending 0, failed 0, accept 1.
@@ -85,11 +64,9 @@ fn checks(first: Operands, second: Operands, failed: u32) -> Wiring
         first,
         second,
         third: spare(),
-        fourth: spare(),
         failed,
         accept: 1,
         pending: 0,
-        memory: 0,
     }
 }
 
@@ -100,11 +77,9 @@ fn waits(first: Operands, second: Operands, third: Operands, pending: u32, faile
         first,
         second,
         third,
-        fourth: spare(),
         failed,
         accept: 1,
         pending,
-        memory: 0,
     }
 }
 
@@ -116,40 +91,14 @@ fn awaits(first: Operands, second: Operands, third: Operands, pending: u32, fail
         first,
         second,
         third,
-        fourth: spare(),
         failed,
         accept: pending + 1,
         pending,
-        memory: 0,
-    }
-}
-
-// A row that looks back: its pending is 0 and its accept 1.
-fn looks_back(
-    first: Operands,
-    second: Operands,
-    third: Operands,
-    fourth: Operands,
-    memory: u32,
-    failed: u32,
-) -> Wiring
-    ensures answer { wiring_as result
-        ≡ looks_back (operands_as first) (operands_as second) (operands_as third) (operands_as fourth) memory failed }
-{
-    Wiring {
-        first,
-        second,
-        third,
-        fourth,
-        failed,
-        accept: 1,
-        pending: 0,
-        memory,
     }
 }
 
 fn constant(kind: ConstantKind, own: Own) -> Wiring
-    ensures answer { wiring_as result ≡ constant_of own kind }
+    ensures answer { wiring_as result ≡ constant_wiring own.activator own.latch own.first own.second own.third kind }
 {
     match kind {
         ConstantKind::True => checks(spare(), spare(), 0),
@@ -160,7 +109,7 @@ fn constant(kind: ConstantKind, own: Own) -> Wiring
 // The literal of the signal is given.
 fn signal(kind: SignalKind, a: u32, own: Own) -> Wiring
     requires { a < 100000 }
-    ensures answer { wiring_as result ≡ signal_of own kind a }
+    ensures answer { wiring_as result ≡ signal_wiring own.activator own.latch own.first own.second own.third kind a }
 {
     match kind {
         SignalKind::Sig => checks(both(own.activator, a + 1), spare(), own.first),
@@ -171,76 +120,34 @@ fn signal(kind: SignalKind, a: u32, own: Own) -> Wiring
 // Those of the operands' activators are given.
 fn unary(kind: UnaryKind, a: u32, own: Own) -> Wiring
     requires { (a < 100000) × Small own }
-    ensures answer { wiring_as result ≡ unary_of own kind a }
+    ensures answer { wiring_as result ≡ unary_wiring own.activator own.latch own.first own.second own.third kind a }
 {
-    let z = own.activator;
     let x = own.first;
-    let y = own.second;
     let waiting = both(x + 1, a + 1);
     match kind {
         UnaryKind::Not => checks(spare(), spare(), 0),
-        UnaryKind::Next => waits(both(own.pending, a + 1), spare(), spare(), z, x),
-        UnaryKind::Always => waits(idle(own), waiting, spare(), x + 1, y),
-        UnaryKind::Ever => awaits(idle(own), waiting, spare(), y, 0),
-        UnaryKind::Before => looks_back(recalled(own), both(z, x + 1), spare(), spare(), a, y),
-        UnaryKind::Wbefore => looks_back(forgotten(own), both(z, x), spare(), spare(), a, y),
-        UnaryKind::Once => {
-            let neither = both(a + 1, x + 1);
-            looks_back(
-                recalled(own),
-                neither,
-                both(z, y),
-                spare(),
-                y + 1,
-                own.third,
-            )
-        }
-        UnaryKind::Sofar => {
-            let meant = both(a, x + 1);
-            looks_back(forgotten(own), meant, both(z, y + 1), spare(), y, own.third)
-        }
+        UnaryKind::Next => waits(both(own.latch, a + 1), spare(), spare(), own.activator, x),
+        UnaryKind::Always => waits(idle(own), waiting, spare(), x + 1, own.second),
+        UnaryKind::Ever => awaits(idle(own), waiting, spare(), own.second, 0),
     }
 }
 
 fn binary(kind: BinaryKind, a: u32, b: u32, own: Own) -> Wiring
     requires { (a < 100000) × (b < 100000) × Small own }
-    ensures answer { wiring_as result ≡ binary_of own kind a b }
+    ensures answer { wiring_as result ≡ binary_wiring own.activator own.latch own.first own.second own.third kind a b }
 {
     let z = own.activator;
     let x = own.first;
     let y = own.second;
-    let w = own.third;
     let not_a = both(x + 1, a + 1);
     let not_b = both(x + 1, b + 1);
     match kind {
         BinaryKind::And => checks(both(a, b), both(z, x + 1), y),
         BinaryKind::Or => checks(both(a + 1, b + 1), both(z, x), y),
-        BinaryKind::Weak => waits(idle(own), not_b, both(y, a + 1), y, w),
-        BinaryKind::Until => awaits(idle(own), not_b, both(y, a + 1), y, w),
-        BinaryKind::Release => waits(idle(own), not_a, not_b, y, w),
-        BinaryKind::Srelease => awaits(idle(own), not_a, not_b, y, w),
-        BinaryKind::Since => {
-            let neither = both(b + 1, y + 1);
-            looks_back(
-                recalled(own),
-                both(a, x),
-                neither,
-                both(z, w),
-                w + 1,
-                own.fourth,
-            )
-        }
-        BinaryKind::Trigger => {
-            let meant = both(b, y + 1);
-            looks_back(
-                forgotten(own),
-                both(a + 1, x),
-                meant,
-                both(z, w + 1),
-                w,
-                own.fourth,
-            )
-        }
+        BinaryKind::Weak => waits(idle(own), not_b, both(y, a + 1), y, own.third),
+        BinaryKind::Until => awaits(idle(own), not_b, both(y, a + 1), y, own.third),
+        BinaryKind::Release => waits(idle(own), not_a, not_b, y, own.third),
+        BinaryKind::Srelease => awaits(idle(own), not_a, not_b, y, own.third),
     }
 }
 
@@ -274,13 +181,6 @@ fn row_wiring(row: Row, signals: u8, own: Own) -> Wiring
     }
 }
 
-// The literal of the mark's latch: behind the latches of the rows, which are two for each.
-pub fn later_of(signals: u8, rows: u8) -> u32
-    ensures answer { (result ≡ later_of signals rows) × (result < 100000) }
-{
-    2 * (signals as u32 + rows as u32 + (2 * rows as u32 + 1))
-}
-
 // The literals of row k's own variables, k counted from 1.
 pub fn own_of(signals: u8, rows: u8, k: usize) -> Own
     requires { (1 ≤ k) × (k ≤ 128) }
@@ -290,16 +190,13 @@ pub fn own_of(signals: u8, rows: u8, k: usize) -> Own
     let k = k as u32;
     let activators = signals as u32;
     let latches = activators + rows as u32;
-    let gates = latches + (2 * rows as u32 + 1) + 4 * (k - 1);
+    let gates = latches + rows as u32 + 3 * (k - 1);
     Own {
         activator: 2 * (activators + k),
-        pending: 2 * (latches + k),
-        memory: 2 * (latches + (rows as u32 + k)),
-        later: later_of(signals, rows),
+        latch: 2 * (latches + k),
         first: 2 * (gates + 1),
         second: 2 * (gates + 2),
         third: 2 * (gates + 3),
-        fourth: 2 * (gates + 4),
     }
 }
 

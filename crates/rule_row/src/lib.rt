@@ -1,43 +1,27 @@
 // The line of a row.
-ghost use Rattle.std.specs.Prelude.{◌≡◌, ◌≤◌, length};
-ghost use Rattle.tables.specs.Bytes.{same_bytes};
-ghost use Rattle.tables.specs.Kind.{with_numbers, word_of};
+ghost use Rattle.std.specs.Prelude.{◌≡◌, ◌≤◌};
+ghost use Rattle.tables.specs.Kind.{with_numbers};
 ghost use Rattle.text.specs.Line.{is_numbered, keyed_line};
 ghost use Rattle.rule_row.specs.Row.{form_as, form_of, in_range, is_operand, is_signal, kind_named, reason_of, row_form, row_line_as, row_value};
 
 use tables::kind;
-use tables::kind::Kind;
 use tables::refusal::Reason;
 use tables::row::Row;
 use text::line::Cut;
 use text::number::Number;
 use text::search::Found;
 
-// Whether a kind has this word.
-fn has_word(kind: Kind, word: &[u8]) -> bool
-    requires { kind.length ≤ length kind.word }
-    ensures answer { result ≡ same_bytes word.now (word_of kind) }
-{
-    let bytes = kind.word;
-    let length = kind.length;
-    text::search::same(word, &bytes[..length])
-}
-
-// The place in the table of the kind that has this word. In two halves: loops of so few turns the compiler unrolls, and then it looks at
-// the word alone and stores no table.
+// The place in the table of the kind that has this word.
 fn kind_named(word: &[u8]) -> Found
     ensures answer { result ≡ kind_named word.now }
 {
     let kinds = kind::table();
     let mut place = 0;
-    while place < kind::KIND_COUNT / 2 {
-        if has_word(kinds[place], word) {
-            return Found::At(place);
-        }
-        place += 1;
-    }
     while place < kind::KIND_COUNT {
-        if has_word(kinds[place], word) {
+        let kind = kinds[place];
+        let bytes = kind.word;
+        let length = kind.length;
+        if text::search::same(word, &bytes[..length]) {
             return Found::At(place);
         }
         place += 1;

@@ -74,21 +74,14 @@ fn put_tail(bytes: &mut [u8; RUN_LENGTH], run: Run)
     bytes[1219] = (run.cycles / 256) as u8;
 }
 
-// All of them, into bytes that are all 0: who calls keeps them, so that nothing is copied.
-fn fill(bytes: &mut [u8; RUN_LENGTH], run: Run)
-    ensures all { bytes.old ≡ filled run_length 0 (byte_of run) 0 → bytes.new ≡ run_bytes run }
-{
-    put_words(bytes, run);
-    put_rows(bytes, run);
-    put_tail(bytes, run);
-}
-
 // The bytes of a run.
 pub fn encode(run: Run) -> [u8; RUN_LENGTH]
     ensures bytes { result ≡ run_bytes run }
 {
     let mut bytes = [0u8; RUN_LENGTH];
-    fill(&mut bytes, run);
+    put_words(&mut bytes, run);
+    put_rows(&mut bytes, run);
+    put_tail(&mut bytes, run);
     bytes
 }
 
@@ -233,8 +226,7 @@ pub fn read(bytes: &[u8]) -> Held
         };
     }
     let run = decode(bytes);
-    let mut again = [0u8; RUN_LENGTH];
-    fill(&mut again, run);
+    let again = encode(run);
     let whole = same(&again, bytes);
     Held { whole, run }
 }

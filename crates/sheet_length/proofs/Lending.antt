@@ -6,7 +6,7 @@ use mathlib.Core.Logic.{◌↔◌, ◌⊎◌, inl, inr}
 use mathlib.Core.Bool.{Bool, true, false}
 use mathlib.Core.List.{List}
 use native.Mathlib.Omega.{arith}
-use lib.Dec.{eqb, leb}
+use lib.Dec.{eqb}
 use lib.ListN.{length}
 use Rattle.tables.specs.Choice.{pick}
 use Rattle.tables.specs.Refusal.{and_then, call_refused, number, numbered}
@@ -15,8 +15,6 @@ use Rattle.tables.specs.declared.refusal.Outcome.TheVariants.{Accepted, Refused}
 use Rattle.tables.specs.declared.refusal.Refusal.{Refusal}
 use Rattle.tables.specs.declared.row.Formula.{Formula}
 use Rattle.tables.specs.declared.trace.Activation.{Activation}
-use Rattle.tables.specs.declared.trace.Ending.{Ending}
-use Rattle.tables.specs.declared.trace.Ending.TheVariants.{Open, Loop}
 use Rattle.tables.specs.declared.trace.Trace.{Trace}
 use Rattle.tables.proofs.Choices.{clash}
 use Rattle.text.specs.Result.{Result, outcome_of}
@@ -30,8 +28,7 @@ use Rattle.sheet_file.specs.Written.{written_sheet}
 use Rattle.normal_form.specs.declared.sign.Sign.TheVariants.{Plain}
 use Rattle.normal_form.specs.Numbering.{normal_form}
 use Rattle.normal_form.proofs.Ranges.{form_normal}
-use Rattle.written_out.specs.Covered.{covered_cycles}
-use Rattle.meeting.specs.Meeting.{twelve_in, pair_outcome, covered_take}
+use Rattle.meeting.specs.Meeting.{pair_outcome, covered_take}
 use Rattle.meeting.specs.declared.Wanted.TheVariants.{Either}
 use Rattle.sheet_maker.specs.declared.MakerAnswer.{MakerAnswer}
 use Rattle.sheet_maker.specs.declared.MakerAnswer.TheVariants.{Written, None, Refused as MakerRefused}
@@ -145,25 +142,17 @@ module _ (f : Formula) (t : Trace) (before after : List ℕ) (answer : MakerAnsw
       by Accepted x = absurd (ten x)
       by (Refused told) x = let same : MakerRefused told ≡ MakerRefused why = sym x.0 ∙ given in cc
 
--- A REFUSAL OF THE LENGTH SERVICE is the rule's, the take's, 7 or 12
-abbrev pub OwnOrMet : Refusal → Type 0
-OwnOrMet why = (why.file ≡ 1) ⊎ ((why.file ≡ 2) ⊎ ((number why.reason ≡ 7) ⊎ (number why.reason ≡ 12)))
-
-pub refused_by : (f : Formula) (t : Trace) (why : Refusal) → Measures f t (BytesRefused why) → OwnOrMet why
-refused_by f t why = by (parse_rule (written_rule f)) (parse_take (written_take t)) (eqb f.signals t.signals) t.ending
+-- A REFUSAL OF THE LENGTH SERVICE is the rule's, the take's, or 7
+pub refused_by : (f : Formula) (t : Trace) (why : Refusal) → Measures f t (BytesRefused why) → (why.file ≡ 1) ⊎ ((why.file ≡ 2) ⊎ (number why.reason ≡ 7))
+refused_by f t why = by (parse_rule (written_rule f)) (parse_take (written_take t)) (eqb f.signals t.signals)
   where
     told : {r : Refusal} → BytesRefused why ≡ BytesRefused r → why ≡ r
     told q = cc
 
-    long : (b : Bool) → MeasuresOn (pick b Accepted (call_refused (numbered 12))) f t (BytesRefused why) → OwnOrMet why
-    long true m = absurd (never_refused m)
-    long false m = inr (inr (inr (ap (λ (r : Refusal). number r.reason) (told m))))
-
-    by : (p : Result Formula) (q : Result Trace) (b : Bool) (ending : Ending)
-        → MeasuresOn (and_then (and_then (outcome_of 1 p) (outcome_of 2 q)) (and_then (pick b Accepted (call_refused (numbered 7))) (twelve_in (normal_form f Plain) t ending))) f t (BytesRefused why)
-        → OwnOrMet why
-    by (refused e n) q b x m = inl (ap (λ (r : Refusal). r.file) (told m))
-    by (accepted g) (refused e n) b x m = inr (inl (ap (λ (r : Refusal). r.file) (told m)))
-    by (accepted g) (accepted u) false x m = inr (inr (inl (ap (λ (r : Refusal). number r.reason) (told m))))
-    by (accepted g) (accepted u) true Open m = absurd (never_refused m)
-    by (accepted g) (accepted u) true (Loop l) m = long (leb (covered_cycles (normal_form f Plain) t l) 256) m
+    by : (p : Result Formula) (q : Result Trace) (b : Bool)
+        → MeasuresOn (and_then (and_then (outcome_of 1 p) (outcome_of 2 q)) (and_then (pick b Accepted (call_refused (numbered 7))) Accepted)) f t (BytesRefused why)
+        → (why.file ≡ 1) ⊎ ((why.file ≡ 2) ⊎ (number why.reason ≡ 7))
+    by (refused e n) q b m = inl (ap (λ (r : Refusal). r.file) (told m))
+    by (accepted g) (refused e n) b m = inr (inl (ap (λ (r : Refusal). r.file) (told m)))
+    by (accepted g) (accepted u) true m = absurd (never_refused m)
+    by (accepted g) (accepted u) false m = inr (inr (ap (λ (r : Refusal). number r.reason) (told m)))

@@ -1,9 +1,8 @@
 -- DEMAND 3 ON THE SHEET MAKER: "A looped take has a passing activator sheet of its own cycles and loop exactly when its endless
 -- repetition satisfies the rule. An open take has a passing sheet, with nothing failed and nothing pending after its last cycle, exactly
 -- when it is kept, and then every endless continuation satisfies the rule. Refusals aside, we write a passing sheet exactly when there
--- is one and answer `none` otherwise". 02, request 6: "In demand 3 a looped take's own cycles and loop are then those of this written-out
--- form, for every take that refusal 12 below does not turn away." Assumes nothing.
-use Prim.Native.Nat.{ℕ, suc, ◌+◌, ◌*◌, ◌-◌, ◌≤◌, ◌<◌}
+-- is one and answer `none` otherwise". Assumes nothing.
+use Prim.Native.Nat.{ℕ, suc, ◌-◌, ◌≤◌, ◌<◌}
 use mathlib.Core.Path.{◌≡◌, refl, sym, ap, subst, subst⁻¹, ◌∙◌}
 use mathlib.Core.Logic.{◌↔◌}
 use mathlib.Core.Bool.{Bool, true}
@@ -30,7 +29,6 @@ use Rattle.sheet_file.specs.Written.{written_sheet}
 use Rattle.meaning.specs.Reading.{classical}
 use Rattle.meaning.specs.Trace.{InfiniteTrace, unrolled, Extends}
 use Rattle.meaning.specs.Satisfaction.{Satisfies}
-use Rattle.meaning.specs.Nesting.{nesting}
 use Rattle.normal_form.specs.declared.sign.Sign.TheVariants.{Plain}
 use Rattle.normal_form.specs.Form.{InNormalForm}
 use Rattle.normal_form.specs.Numbering.{normal_form}
@@ -40,16 +38,14 @@ use Rattle.normal_form.proofs.Demand.{satisfied_alike}
 use Rattle.lanes.specs.Truth.{TrueIn}
 use Rattle.truth.proofs.Told.{told_bits}
 use Rattle.judging.specs.Verdict.{IsKept}
-use Rattle.meeting.specs.Meeting.{twelve_outcome, meeting_outcome, own_outcome, pair_outcome, covered_take, covered_loop}
+use Rattle.meeting.specs.Meeting.{meeting_outcome, own_outcome, pair_outcome, covered_take, covered_loop}
 use Rattle.meeting.specs.declared.Wanted.TheVariants.{Either}
 use Rattle.judging.proofs.Verdicts.{kept_continued}
 use Rattle.monitors.specs.Sheet.{activator_at, Fits, IsRow, PassesLooped, PassesOpen, PassesIn, Passes}
 use Rattle.meaning.specs.Covers.{CoversIn, CoversForm}
-use Rattle.nesting.specs.Nested.{NoPast}
 use Rattle.written_out.specs.Covered.{CoverableIn, Coverable}
-use Rattle.written_out.proofs.Laws.{covered_loop_lem}
-use Rattle.meeting.proofs.Covered.{twelve_coverable, met_coverable, HaveMet, met_range, met_covers, met_open, met_ending}
-use Rattle.meeting.proofs.Twelve.{ahead_itself, ahead_coverable}
+use Rattle.written_out.proofs.Laws.{coverable, covered_itself}
+use Rattle.meeting.proofs.Covered.{met_coverable, HaveMet, met_range, met_covers, met_open, met_ending}
 use Rattle.monitors.proofs.Facts.{looped_passing_true, looped_true_passing, open_passing_true, open_true_passing}
 use Rattle.writing.specs.declared.answer.Bytes.{Bytes}
 use Rattle.writing.specs.declared.answer.Bytes.TheVariants.{Count, Refused as BytesRefused}
@@ -94,7 +90,7 @@ module _ (g : NormalForm) (t : Trace) (ok : InNormalForm g) (most : t.cycles ≤
 
 -- ---- sheets that pass
 
--- some sheet for the rule's normal form and the take's own cycles and loop passes: these are those of the take that it covers
+-- some sheet for the rule's normal form and the take's own cycles and loop passes: those of the take that it covers
 abbrev pub HasSheet : Formula → Trace → Type 0
 HasSheet f t = (a : Activation) × Fits (normal_form f Plain) (covered_take f t) a × Passes (normal_form f Plain) (covered_take f t) a
 
@@ -148,31 +144,21 @@ module _ (f : Formula) (t : Trace) (fine : FormulaInRange f) (range : TraceInRan
   pub sheet_exists : HasSheet f t ↔ Satisfied f t
   sheet_exists = (λ x. passing_satisfied x.0 x.2, λ x. made_sheet f (covered_take f t) fine (met_range met) (met_covers met) ((satisfied_covered met).1 x))
 
+  -- of a looped take: a passing sheet for the cycles and the loop of the take that it covers
+  pub covered_sheet : (l : ℕ) → t.ending ≡ Loop l
+      → ((a : Activation) × Fits (normal_form f Plain) (covered_take f t) a × PassesLooped (normal_form f Plain) (covered_take f t) (covered_loop f t l) a) ↔ Satisfies classical (unrolled t l) f
+  covered_sheet l e =
+      subst (λ y. ((a : Activation) × Fits (normal_form f Plain) (covered_take f t) a × PassesIn (normal_form f Plain) (covered_take f t) y a) ↔ Satisfies classical (unrolled t l) f) (met_ending met l e)
+      (subst (λ y. HasSheet f t ↔ SatisfiedIn f t y) e sheet_exists)
+
 module _ (f : Formula) (t : Trace) (fine : FormulaInRange f) (range : TraceInRange t) where
-  -- "A looped take has a passing activator sheet of its own cycles and loop exactly when its endless repetition satisfies the rule.": the
-  -- cycles and loop are those of the written-out form, "for every take that refusal 12 .. does not turn away"
-  module _ (l : ℕ) (e : t.ending ≡ Loop l) where
-    module _ (twelve : twelve_outcome f t ≡ Accepted) where
-      coverable : Coverable (normal_form f Plain) t
-      coverable = twelve_coverable (normal_form f Plain) t t.ending twelve
-
-      pub covered_sheet : ((a : Activation) × Fits (normal_form f Plain) (covered_take f t) a × PassesLooped (normal_form f Plain) (covered_take f t) (covered_loop f t l) a)
-          ↔ Satisfies classical (unrolled t l) f
-      covered_sheet =
-          subst (λ y. ((a : Activation) × Fits (normal_form f Plain) (covered_take f t) a × PassesIn (normal_form f Plain) (covered_take f t) y a) ↔ Satisfies classical (unrolled t l) f)
-          (met_ending (met f t fine range coverable) l e)
-          (subst (λ y. HasSheet f t ↔ SatisfiedIn f t y) e (sheet_exists f t fine range coverable))
-
-      -- "sheets for such rules cover the take with that many rounds written out before its loop"
-      pub sheet_cycles : (a : Activation) → Fits (normal_form f Plain) (covered_take f t) a → a.cycles ≡ t.cycles + nesting (normal_form f Plain) * (t.cycles - l)
-      sheet_cycles a fits = fits.cycles ∙ (covered_loop_lem (normal_form f Plain) t l e coverable).cycles
-
-    -- where no row looks back, as in a rule of 01, they are the take's own
-    pub looped_sheet : NoPast (normal_form f Plain) → ((a : Activation) × Fits (normal_form f Plain) t a × PassesLooped (normal_form f Plain) t l a) ↔ Satisfies classical (unrolled t l) f
-    looped_sheet ahead =
-        subst (λ y. ((a : Activation) × Fits (normal_form f Plain) t a × PassesIn (normal_form f Plain) t y a) ↔ SatisfiedIn f t y) e
-        (subst (λ u. ((a : Activation) × Fits (normal_form f Plain) u a × Passes (normal_form f Plain) u a) ↔ Satisfied f t) (ahead_itself f t fine ahead)
-        (sheet_exists f t fine range (ahead_coverable f t fine ahead range)))
+  -- "A looped take has a passing activator sheet of its own cycles and loop exactly when its endless repetition satisfies the rule.":
+  -- the take that a sheet covers is the take itself
+  pub looped_sheet : (l : ℕ) → t.ending ≡ Loop l → ((a : Activation) × Fits (normal_form f Plain) t a × PassesLooped (normal_form f Plain) t l a) ↔ Satisfies classical (unrolled t l) f
+  looped_sheet l e =
+      subst (λ y. ((a : Activation) × Fits (normal_form f Plain) t a × PassesIn (normal_form f Plain) t y a) ↔ SatisfiedIn f t y) e
+      (subst (λ u. ((a : Activation) × Fits (normal_form f Plain) u a × Passes (normal_form f Plain) u a) ↔ Satisfied f t) (covered_itself (normal_form f Plain) t)
+      (sheet_exists f t fine range (coverable (normal_form f Plain) t range)))
 
   -- "An open take has a passing sheet, with nothing failed and nothing pending after its last cycle, exactly when it is kept,
   module _ (e : t.ending ≡ Open) where
@@ -235,7 +221,7 @@ module _ (f : Formula) (t : Trace) (fine : FormulaInRange f) (range : TraceInRan
 module _ (f : Formula) (t : Trace) (fine : FormulaInRange f) (range : TraceInRange t) (before after : List ℕ) (answer : MakerAnswer)
     (fine-pair : pair_outcome Either f t ≡ Accepted) (makes : Makes f t before after answer) where
   able : Coverable (normal_form f Plain) t
-  able = met_coverable Either f t (both_accept (own_outcome f t) (meeting_outcome Either f t) fine-pair).1
+  able = met_coverable Either f t range (both_accept (own_outcome f t) (meeting_outcome Either f t) fine-pair).1
 
   answers : Answers f t before after answer
   answers = subst (λ o. MakesOn o f t before after answer) fine-pair makes

@@ -19,14 +19,14 @@ use Rattle.circuit.specs.Circuit.{Circuit}
 use Rattle.circuit.specs.Valuation.{Valuation, IsRun}
 use Rattle.circuit_file.specs.File.{parse_circuit}
 use Rattle.step.specs.Step.{rows_in}
-use Rattle.monitor_circuit.specs.Steps.{rule_circuit, latches_in}
+use Rattle.monitor_circuit.specs.Steps.{rule_circuit}
 use Rattle.monitor_circuit.proofs.WellFormed.{inputs_size, latches_size, outputs_size}
 use Rattle.monitor_circuit.proofs.ReadBack.{rule_file_read}
 use Rattle.monitor_circuit.proofs.Inputs.{all_answered}
 use Rattle.monitor_circuit.proofs.Equivalence.{monitors_equal}
 use Rattle.circuit_writer.specs.Answer.{circuit_text, writer_answer, writer_left}
 use Rattle.simulation.specs.FromZero.{Simulated, FromZero, digits_up_to}
-use Rattle.simulation.specs.Steps.{SameCycle, input_digits, written_size}
+use Rattle.simulation.specs.Steps.{SameCycle, input_digits}
 use Rattle.simulation.proofs.Runs.{simulated_exists, answers_run, outputs_run, nexts_run}
 
 -- a rule that passes its own check, and its circuit's file
@@ -41,16 +41,16 @@ module _ (f : Formula) (own : rule_outcome f ≡ Accepted) where
   unfolding normal_form
   inputs_many = inputs_size g
 
-  latches_many : length c.latches ≡ latches_in f
+  latches_many : length c.latches ≡ rows_in f
   latches_many = latches_size g
 
   outputs_many : length c.outputs ≡ 3 * rows_in f
   outputs_many = outputs_size g
 
-  written_many : length c.outputs + length c.latches ≡ written_size f
+  written_many : length c.outputs + length c.latches ≡ 4 * rows_in f
   written_many = omega (arith, latches_many, outputs_many)
 
-  module _ (inputs : ℕ → ℕ → Bool) (buffers : ℕ → List ℕ) (rooms : (i : ℕ) → written_size f ≤ length (buffers i)) where
+  module _ (inputs : ℕ → ℕ → Bool) (buffers : ℕ → List ℕ) (rooms : (i : ℕ) → 4 * rows_in f ≤ length (buffers i)) where
     room : (i : ℕ) → length c.outputs + length c.latches ≤ length (buffers i)
     room i = omega (arith, rooms i, written_many)
 
@@ -75,7 +75,7 @@ module _ (f : Formula) (own : rule_outcome f ≡ Accepted) where
             same_outputs =
                 ap (λ m. take m (s.lefts i)) (sym outputs_many) ∙ (outputs_run c file read inputs buffers values n run room s calls i h ∙ sym same.0);
             same_latches =
-                ap (λ m. part m (written_size f) (s.lefts i)) (sym outputs_many)
+                ap (λ m. part m (4 * rows_in f) (s.lefts i)) (sym outputs_many)
                 ∙ (ap (λ m. part (length c.outputs) m (s.lefts i)) (sym written_many)
                 ∙ (nexts_run c file read inputs buffers values n run room s calls i h ∙ sym same.1));
           }
@@ -94,7 +94,7 @@ module _ (f : Formula) (buf : List ℕ) (m : ℕ) (wrote : writer_answer f buf �
 
   -- "For every input sequence the file simulated from latches at 0 gives the same outputs in each cycle as our own step from a fresh
   -- start": there are calls with these inputs, and in all of them, however many, each cycle is the step's
-  pub simulated_equal : (inputs : ℕ → ℕ → Bool) (buffers : ℕ → List ℕ) → ((i : ℕ) → written_size f ≤ length (buffers i))
+  pub simulated_equal : (inputs : ℕ → ℕ → Bool) (buffers : ℕ → List ℕ) → ((i : ℕ) → 4 * rows_in f ≤ length (buffers i))
       → ((s : Simulated) × ((n : ℕ) → FromZero (rule_circuit f) written_file n (input_digits f inputs) buffers s))
       × ((n : ℕ) (s : Simulated) → FromZero (rule_circuit f) written_file n (input_digits f inputs) buffers s → (i : ℕ) → i < n → SameCycle f inputs s i)
   simulated_equal inputs buffers rooms =

@@ -44,10 +44,6 @@ module _ (n : ℕ) where
   Begun k a [] m = Unit {0}
   Begun k a (x ∷ xs) m = ((i : ℕ) → i < k → get_or m (a + i) 0 ≡ x i) × Begun k (a + n) xs m
 
-  begun_none : (a : ℕ) (xs : List (ℕ → ℕ)) (m : List ℕ) → Begun 0 a xs m
-  begun_none a [] m = tt
-  begun_none a (x ∷ xs) m = (λ i l. absurd (omega arith), begun_none (a + n) xs m)
-
   behind_far : (a : ℕ) (xs : List (ℕ → ℕ)) → a ≤ behind a xs
   behind_far a [] = omega arith
   behind_far a (x ∷ xs) = omega (arith, behind_far (a + n) xs)
@@ -100,9 +96,6 @@ module _ (n : ℕ) where
       pub size : length m ≡ length b
       pub rest : drop (behind 0 xs) m ≡ drop (behind 0 xs) b
       pub begun : Begun k 0 xs m
-
-    pub stripes_none : StripesTo 0 b
-    stripes_none = record { size = refl; rest = refl; begun = begun_none 0 xs b }
 
     module _ (fits : behind 0 xs ≤ length b) {k : ℕ} {m : List ℕ} (inv : StripesTo k m) where
       pub stripes_more : k < n → StripesTo (k + 1) (stored k 0 xs m)

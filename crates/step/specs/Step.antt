@@ -1,5 +1,4 @@
--- The step service (01, "Monitors"; its state 02, request 6): when it refuses, what it answers, and what it leaves in the lent buffer.
--- Assumes nothing.
+-- The step service (01, "Monitors"): when it refuses, what it answers, and what it leaves in the lent buffer. Assumes nothing.
 use Rattle.std.specs.Prelude.{ℕ, suc, ◌+◌, ◌*◌, ◌-◌, Bool, ◌&&◌, List, ◌++◌, eqb, leb, length, get_or, drop}
 use Rattle.tables.specs.Choice.{pick}
 use Rattle.tables.specs.Place.{tabulate}
@@ -34,11 +33,10 @@ output_size rows = 2 * rows + state_size rows
 abbrev pub state_digits : ℕ → State Bool → List ℕ
 state_digits rows s = digits_text (in_order rows s)
 
--- ---- the step of a normal form: "each row's pending one cycle earlier, each row's activator and each signal"; of the second bits and the
--- mark: "The step reads and writes both behind the pendings, the mark last (written 0)"
+-- ---- the step of a normal form: "each row's pending one cycle earlier, each row's activator and each signal"
 
 module _ (g : NormalForm) (given activators signals : List ℕ) where
-  -- the state that is given: "the step takes any state as given"
+  -- the state that is given
   abbrev pub state_given : State Bool
   state_given = state_at g.rows (digit_at given)
 
@@ -49,7 +47,7 @@ module _ (g : NormalForm) (given activators signals : List ℕ) where
   abbrev pub state_left : State Bool
   state_left = next_state (table_of g.places) (digit_at activators) (digit_at signals) state_given
 
-  -- "the digits of failed, then accept, then pending, each by row", then second bits and mark
+  -- "the digits of failed, then accept, then pending, each by row"
   unfoldable pub form_output : List ℕ
   form_output =
       tabulate g.rows (λ i. digit_of (row_output (suc i)).failed)
@@ -57,7 +55,7 @@ module _ (g : NormalForm) (given activators signals : List ℕ) where
       ++ state_digits g.rows state_left)
 
   -- "another byte gives 2, another number of signals 7, of pendings or activators 9, a short buffer 10, in that order, with file and
-  -- line 0"; of pendings, second bits and mark together: "another number gives 9"
+  -- line 0"
   abbrev pub form_outcome : ℕ → Outcome
   form_outcome room =
       and_then (pick ((are_digits given && are_digits activators) && are_digits signals) Accepted (call_refused (numbered 2)))

@@ -1,4 +1,4 @@
-// One cycle of the monitors of a rule, as a service (01, "Monitors", and 02, request 6).
+// One cycle of the monitors of a rule, as a service (01, "Monitors").
 ghost use Rattle.std.specs.Prelude.{◌≡◌, ◌++◌, ◌≤◌, length, drop};
 ghost use Rattle.meaning.specs.Rows.{Each, EachSignal};
 ghost use Rattle.monitors.specs.Monitor.{monitor};
@@ -31,12 +31,11 @@ fn digit(on: bool) -> u8
     if on { b'1' } else { b'0' }
 }
 
-// How many digits a state has: each row's pending, each row's memory, and the first-cycle mark.
+// How many digits a state has: one for each row's pending.
 fn state_size(rows: usize) -> usize
-    requires { rows ≤ 255 }
     ensures answer { result ≡ state_size rows }
 {
-    2 * rows + 1
+    rows
 }
 
 // How many digits are written: failed, accept and the state that is handed on.
@@ -73,7 +72,6 @@ fn put_outputs(buf: &mut [u8], form: NormalForm, given: &[u8], activators: &[u8]
         ++ drop (output_size form.rows) buf.old }
 {
     let rows = form.rows as usize;
-    let initial = is_on(given, state_size(rows));
     let mut k = 0;
     while k < rows {
         let place = form.places[k];
@@ -81,18 +79,13 @@ fn put_outputs(buf: &mut [u8], form: NormalForm, given: &[u8], activators: &[u8]
         let state = RowState {
             active: is_on(activators, k + 1),
             pending: is_on(given, k + 1),
-            memory: is_on(given, rows + k + 1),
-            initial,
         };
         let output = row_output(row, state, activators, signals);
         buf[k] = digit(output.failed);
         buf[rows + k] = digit(output.accept);
         buf[2 * rows + k] = digit(output.pending);
-        buf[3 * rows + k] = digit(output.memory);
         k += 1;
     }
-    // the next cycle is not the first
-    buf[4 * rows] = digit(false);
 }
 
 // The refusals of a call on a rule that has passed its own check.
@@ -149,8 +142,7 @@ pub fn step_met(
     }
 }
 
-// SERVICE: one cycle of the monitors, from the state one cycle earlier (each row's pending and memory, and the first-cycle mark), each
-// row's activator and each signal. Any state is taken as given.
+// SERVICE: one cycle of the monitors, from the state one cycle earlier (each row's pending), each row's activator and each signal.
 pub fn step(
     formula: Formula,
     given: &[u8],

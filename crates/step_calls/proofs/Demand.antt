@@ -26,7 +26,7 @@ use Rattle.monitors.proofs.Soundness.{output_in, HandedOn, Unfailing, active_row
 use Rattle.step.specs.Step.{digit_at, state_left, rows_in}
 use Rattle.step_calls.specs.Calls.{Call, given, InOrder, kept, handed, answered, left, TakeOf, StepsPass}
 use Rattle.step_calls.proofs.Order.{reached, later, first_unique, at_first, at_next, order_unique, listed, listed_in_order}
-use Rattle.step_calls.proofs.Steps.{digit_one, digit_not_one, answered_range, left_failed, left_accept, handed_on_lem, kept_back, handed_fresh}
+use Rattle.step_calls.proofs.Steps.{digit_one, digit_not_one, answered_range, left_failed, left_accept, handed_on, kept_back, handed_fresh}
 
 -- what is so of each row; number 0 is no row
 abbrev of_row : (ℕ → Bool) → ℕ → Bool
@@ -34,7 +34,7 @@ of_row x zero = false
 of_row x (suc k) = x (suc k)
 
 abbrev of_rows : State Bool → State Bool
-of_rows s = record { pending = of_row s.pending; memory = of_row s.memory; initial = s.initial }
+of_rows s = record { pending = of_row s.pending }
 
 of_row_lem :
     (rows : ℕ) (x y : ℕ → Bool) → y 0 ≡ false → ((k : ℕ) → k < rows → x (suc k) ≡ y (suc k))
@@ -78,21 +78,13 @@ module _ (f : Formula) (calls : ℕ → Call) where
     left_next c =
         let rows : ℕ = (calls (at (suc c))).rows in
         subst⁻¹ (λ x. SameState (RowTo g.rows) (state_at g.rows (digit_at (given x rows))) (left_of c))
-        (at_next order (kept f calls) (kept_back f calls) c) (handed_on_lem f calls (at c) (order.each c) rows)
+        (at_next order (kept f calls) (kept_back f calls) c) (handed_on f calls (at c) (order.each c) rows)
 
     states_handed_on : HandedOn table (suc g.rows) signals active states
     states_handed_on =
         record {
-          fresh = record {
-            same_pending = of_row_lem g.rows _ _ refl (λ k h. fresh_first.same_pending (suc k) (omega arith, omega arith));
-            same_memory = of_row_lem g.rows _ _ refl (λ k h. fresh_first.same_memory (suc k) (omega arith, omega arith));
-            same_initial = fresh_first.same_initial;
-          };
-          next = λ c. record {
-            same_pending = of_row_lem g.rows _ _ refl (λ k h. (left_next c).same_pending (suc k) (omega arith, omega arith));
-            same_memory = of_row_lem g.rows _ _ refl (λ k h. (left_next c).same_memory (suc k) (omega arith, omega arith));
-            same_initial = (left_next c).same_initial;
-          };
+          fresh = record { same_pending = of_row_lem g.rows _ _ refl (λ k h. fresh_first.same_pending (suc k) (omega arith, omega arith)) };
+          next = λ c. record { same_pending = of_row_lem g.rows _ _ refl (λ k h. (left_next c).same_pending (suc k) (omega arith, omega arith)) };
         }
 
     module _ (passes : StepsPass f calls classical) where

@@ -1,5 +1,4 @@
 pub mod Order
 pub mod Steps
 pub mod Demand
-pub mod Alternating
 pub mod Witness

@@ -157,8 +157,8 @@ module _ (f : Formula) (calls : ℕ → Call) (i : ℕ) where
         (ap wrote (ap (part (2 * g.rows) (output_size g.rows)) left_is ∙ state_part g p a s (drop (output_size g.rows) (calls i).buffer)))
 
     -- the state that the next call gets, for whatever number of rows it would have got a fresh one before
-    pub handed_on_lem : (rows : ℕ) → SameState (RowTo (rows_in f)) (state_at (rows_in f) (digit_at (given (kept f calls (suc i)) rows))) (state_left g p a s)
-    handed_on_lem rows =
+    pub handed_on : (rows : ℕ) → SameState (RowTo (rows_in f)) (state_at (rows_in f) (digit_at (given (kept f calls (suc i)) rows))) (state_left g p a s)
+    handed_on rows =
         subst⁻¹ (λ x. SameState (RowTo (rows_in f)) (state_at (rows_in f) (digit_at (given x rows))) (state_left g p a s)) kept_is
         (state_digits_lem (rows_in f) (state_left g p a s))
 

@@ -1,4 +1,4 @@
--- Endless lists of step calls (01, "Monitors"; demand 3, first sentence; of their states 02, request 6). Assumes nothing.
+-- Endless lists of step calls (01, "Monitors"; demand 3, first sentence). Assumes nothing.
 use Rattle.std.specs.Prelude.{ℕ, zero, suc, ◌+◌, ◌*◌, ◌≤◌, ◌<◌, ◌≡◌, Bool, true, false, List, get_or}
 use Rattle.tables.specs.declared.row.Formula.{Formula}
 use Rattle.text.specs.Search.{part}
@@ -23,8 +23,7 @@ pub data Kept : Type 0 where
   wrote : List ℕ → Kept
 
 -- "Until one is answered, calls get pendings that are all 0. After that each gets, as a copy that nobody else alters, the pendings
--- that the last answered one wrote"; "second bits and mark being handed on like the pendings, the mark on at first": the state that a
--- call gets, fresh for so many rows
+-- that the last answered one wrote": the state that a call gets, fresh for so many rows
 abbrev pub given : Kept → ℕ → List ℕ
 given fresh rows = state_digits rows fresh_state
 given (wrote state) rows = state

@@ -8,9 +8,9 @@ use Rattle.tables.specs.declared.row.ConstantKind.TheVariants.{True, False}
 use Rattle.tables.specs.declared.row.SignalKind.{SignalKind}
 use Rattle.tables.specs.declared.row.SignalKind.TheVariants.{Sig, Nsig}
 use Rattle.tables.specs.declared.row.UnaryKind.{UnaryKind}
-use Rattle.tables.specs.declared.row.UnaryKind.TheVariants.{Not, Next, Always, Ever, Before, Wbefore, Once, Sofar}
+use Rattle.tables.specs.declared.row.UnaryKind.TheVariants.{Not, Next, Always, Ever}
 use Rattle.tables.specs.declared.row.BinaryKind.{BinaryKind}
-use Rattle.tables.specs.declared.row.BinaryKind.TheVariants.{And, Or, Weak, Until, Release, Srelease, Since, Trigger}
+use Rattle.tables.specs.declared.row.BinaryKind.TheVariants.{And, Or, Weak, Until, Release, Srelease}
 use Rattle.tables.specs.declared.row.Row.TheVariants.{Constant, Signal, Unary, Binary}
 
 -- the partner of each kind: the table's, by the laws below
@@ -27,10 +27,6 @@ unary_dual Not = Not
 unary_dual Next = Next
 unary_dual Always = Ever
 unary_dual Ever = Always
-unary_dual Before = Wbefore
-unary_dual Wbefore = Before
-unary_dual Once = Sofar
-unary_dual Sofar = Once
 
 abbrev pub binary_dual : BinaryKind → BinaryKind
 binary_dual And = Or
@@ -39,8 +35,6 @@ binary_dual Weak = Srelease
 binary_dual Until = Release
 binary_dual Release = Until
 binary_dual Srelease = Weak
-binary_dual Since = Trigger
-binary_dual Trigger = Since
 
 pub dual_constant : (c : ConstantKind) → dual_of (Constant c) ≡ Constant (constant_dual c)
 unfolding dual_of kind_at kinds
@@ -58,10 +52,6 @@ dual_unary Not a = refl
 dual_unary Next a = refl
 dual_unary Always a = refl
 dual_unary Ever a = refl
-dual_unary Before a = refl
-dual_unary Wbefore a = refl
-dual_unary Once a = refl
-dual_unary Sofar a = refl
 
 pub dual_binary : (c : BinaryKind) (a b : ℕ) → dual_of (Binary c a b) ≡ Binary (binary_dual c) a b
 unfolding dual_of kind_at kinds
@@ -71,5 +61,3 @@ dual_binary Weak a b = refl
 dual_binary Until a b = refl
 dual_binary Release a b = refl
 dual_binary Srelease a b = refl
-dual_binary Since a b = refl
-dual_binary Trigger a b = refl

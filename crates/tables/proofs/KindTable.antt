@@ -13,9 +13,9 @@ use Rattle.tables.specs.declared.row.ConstantKind.TheVariants.{True, False}
 use Rattle.tables.specs.declared.row.SignalKind.{SignalKind}
 use Rattle.tables.specs.declared.row.SignalKind.TheVariants.{Sig, Nsig}
 use Rattle.tables.specs.declared.row.UnaryKind.{UnaryKind}
-use Rattle.tables.specs.declared.row.UnaryKind.TheVariants.{Not, Next, Always, Ever, Before, Wbefore, Once, Sofar}
+use Rattle.tables.specs.declared.row.UnaryKind.TheVariants.{Not, Next, Always, Ever}
 use Rattle.tables.specs.declared.row.BinaryKind.{BinaryKind}
-use Rattle.tables.specs.declared.row.BinaryKind.TheVariants.{And, Or, Weak, Until, Release, Srelease, Since, Trigger}
+use Rattle.tables.specs.declared.row.BinaryKind.TheVariants.{And, Or, Weak, Until, Release, Srelease}
 use Rattle.tables.specs.declared.row.Row.{Row}
 use Rattle.tables.specs.declared.row.Row.TheVariants.{Constant, Signal, Unary, Binary}
 
@@ -83,10 +83,6 @@ unary_row Not = (omega arith, refl)
 unary_row Next = (omega arith, refl)
 unary_row Always = (omega arith, refl)
 unary_row Ever = (omega arith, refl)
-unary_row Before = (omega arith, refl)
-unary_row Wbefore = (omega arith, refl)
-unary_row Once = (omega arith, refl)
-unary_row Sofar = (omega arith, refl)
 
 binary_row : (k : BinaryKind) → (binary_place k < kind_count) × ((kind_at (binary_place k)).row ≡ Binary k 0 0)
 unfolding kind_at kinds
@@ -96,8 +92,6 @@ binary_row Weak = (omega arith, refl)
 binary_row Until = (omega arith, refl)
 binary_row Release = (omega arith, refl)
 binary_row Srelease = (omega arith, refl)
-binary_row Since = (omega arith, refl)
-binary_row Trigger = (omega arith, refl)
 
 pub kind_of_row : (r : Row) → (place_of r < kind_count) × ((kind_at (place_of r)).row ≡ with_numbers r 0 0)
 kind_of_row (Constant k) = constant_row k

@@ -8,9 +8,9 @@ use Rattle.tables.specs.declared.row.ConstantKind.TheVariants.{True, False}
 use Rattle.tables.specs.declared.row.SignalKind.{SignalKind}
 use Rattle.tables.specs.declared.row.SignalKind.TheVariants.{Sig, Nsig}
 use Rattle.tables.specs.declared.row.UnaryKind.{UnaryKind}
-use Rattle.tables.specs.declared.row.UnaryKind.TheVariants.{Not, Next, Always, Ever, Before, Wbefore, Once, Sofar}
+use Rattle.tables.specs.declared.row.UnaryKind.TheVariants.{Not, Next, Always, Ever}
 use Rattle.tables.specs.declared.row.BinaryKind.{BinaryKind}
-use Rattle.tables.specs.declared.row.BinaryKind.TheVariants.{And, Or, Weak, Until, Release, Srelease, Since, Trigger}
+use Rattle.tables.specs.declared.row.BinaryKind.TheVariants.{And, Or, Weak, Until, Release, Srelease}
 use Rattle.tables.specs.declared.row.Row.{Row}
 use Rattle.tables.specs.declared.row.Row.TheVariants.{Constant, Signal, Unary, Binary}
 
@@ -19,7 +19,6 @@ abbrev kind : String → Row → ℕ → Kind
 kind w r p = record { word = take 8 (bytes w ++ replicate 8 0); length = length (bytes w); row = r; partner = p }
 
 -- "Partners under negation: true/false, sig/nsig, and/or, always/ever, until/release, weak/srelease; next is its own."
--- Document 003 on the past operators of 02, request 6: "the dualities between … O and H, and S and T", "¬Yφ ≡ Z¬φ and ¬Zφ ≡ Y¬φ".
 -- (`not` gets no row in a normal form; its own place stands in its line.)
 unfoldable pub kinds : List Kind
 kinds =
@@ -36,17 +35,11 @@ kinds =
     kind "weak" (Binary Weak 0 0) 13 ∷  -- 10
     kind "until" (Binary Until 0 0) 12 ∷
     kind "release" (Binary Release 0 0) 11 ∷  -- 12
-    kind "srelease" (Binary Srelease 0 0) 10 ∷
-    kind "before" (Unary Before 0) 15 ∷  -- 14
-    kind "wbefore" (Unary Wbefore 0) 14 ∷
-    kind "once" (Unary Once 0) 17 ∷  -- 16
-    kind "sofar" (Unary Sofar 0) 16 ∷
-    kind "since" (Binary Since 0 0) 19 ∷  -- 18
-    kind "trigger" (Binary Trigger 0 0) 18 ∷ []
+    kind "srelease" (Binary Srelease 0 0) 10 ∷ []
 
 -- how many kinds there are (law `kind_count_lem`)
 abbrev pub kind_count : ℕ
-kind_count = 20
+kind_count = 14
 
 -- what a place behind the table would hold
 abbrev pub no_kind : Kind
@@ -73,10 +66,6 @@ unary_place Not = 4
 unary_place Next = 7
 unary_place Always = 8
 unary_place Ever = 9
-unary_place Before = 14
-unary_place Wbefore = 15
-unary_place Once = 16
-unary_place Sofar = 17
 
 abbrev pub binary_place : BinaryKind → ℕ
 binary_place And = 5
@@ -85,8 +74,6 @@ binary_place Weak = 10
 binary_place Until = 11
 binary_place Release = 12
 binary_place Srelease = 13
-binary_place Since = 18
-binary_place Trigger = 19
 
 abbrev pub place_of : Row → ℕ
 place_of (Constant c) = constant_place c

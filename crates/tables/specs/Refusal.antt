@@ -5,10 +5,9 @@ use Rattle.tables.specs.declared.refusal.Reason.{Reason}
 use Rattle.tables.specs.declared.refusal.Refusal.{Refusal}
 use Rattle.tables.specs.declared.refusal.Outcome.{Outcome}
 use Rattle.tables.specs.declared.refusal.Outcome.TheVariants.{Accepted, Refused}
-use Rattle.tables.specs.declared.refusal.Reason.TheVariants.{TooLong, WrongForm, WrongFormat, CountOutOfRange, BadReference, BadLoop, SignalsDiffer, WrongEnding, SizeDiffers, ShortBuffer, TooManyCycles, WrittenOutTooLong}
+use Rattle.tables.specs.declared.refusal.Reason.TheVariants.{TooLong, WrongForm, WrongFormat, CountOutOfRange, BadReference, BadLoop, SignalsDiffer, WrongEnding, SizeDiffers, ShortBuffer, TooManyCycles}
 
--- the list's numbers; 02 goes on: "A cycle beyond the 256th is turned away with 11" and "A take whose written-out form passes 256 cycles
--- gives 12"
+-- the list's numbers; 02 goes on: "A cycle beyond the 256th is turned away with 11"
 abbrev pub number : Reason → ℕ
 number TooLong = 1
 number WrongForm = 2
@@ -21,9 +20,8 @@ number WrongEnding = 8
 number SizeDiffers = 9
 number ShortBuffer = 10
 number TooManyCycles = 11
-number WrittenOutTooLong = 12
 
--- the reason that the list gives this number, 1 to 12: the definitions of what a service answers name their refusals by it
+-- the reason that the list gives this number, 1 to 11: the definitions of what a service answers name their refusals by it
 abbrev pub numbered : ℕ → Reason
 numbered n =
     pick (eqb n (number TooLong)) TooLong
@@ -35,8 +33,7 @@ numbered n =
     (pick (eqb n (number SignalsDiffer)) SignalsDiffer
     (pick (eqb n (number WrongEnding)) WrongEnding
     (pick (eqb n (number SizeDiffers)) SizeDiffers
-    (pick (eqb n (number ShortBuffer)) ShortBuffer
-    (pick (eqb n (number TooManyCycles)) TooManyCycles WrittenOutTooLong))))))))))
+    (pick (eqb n (number ShortBuffer)) ShortBuffer TooManyCycles)))))))))
 
 -- the first of two checks that refuses
 abbrev pub and_then : Outcome → Outcome → Outcome

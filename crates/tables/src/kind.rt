@@ -16,7 +16,7 @@ pub struct Kind {
 }
 
 // How many kinds there are.
-pub const KIND_COUNT: usize = 20;
+pub const KIND_COUNT: usize = 14;
 
 // `next` is its own partner. `not` has none in 01, since no normal form has such a row; its own place stands here, so that
 // the table is its own inverse throughout.
@@ -105,42 +105,6 @@ const KINDS: [Kind; KIND_COUNT] = [
         row: Row::Binary(BinaryKind::Srelease, 0, 0),
         partner: 10,
     },
-    Kind {
-        word: *b"before\0\0",
-        length: 6,
-        row: Row::Unary(UnaryKind::Before, 0),
-        partner: 15,
-    },
-    Kind {
-        word: *b"wbefore\0",
-        length: 7,
-        row: Row::Unary(UnaryKind::Wbefore, 0),
-        partner: 14,
-    },
-    Kind {
-        word: *b"once\0\0\0\0",
-        length: 4,
-        row: Row::Unary(UnaryKind::Once, 0),
-        partner: 17,
-    },
-    Kind {
-        word: *b"sofar\0\0\0",
-        length: 5,
-        row: Row::Unary(UnaryKind::Sofar, 0),
-        partner: 16,
-    },
-    Kind {
-        word: *b"since\0\0\0",
-        length: 5,
-        row: Row::Binary(BinaryKind::Since, 0, 0),
-        partner: 19,
-    },
-    Kind {
-        word: *b"trigger\0",
-        length: 7,
-        row: Row::Binary(BinaryKind::Trigger, 0, 0),
-        partner: 18,
-    },
 ];
 
 // The table, for who looks at many of its places: the compiler stores it anew each time that it is indexed by a variable.
@@ -150,34 +114,12 @@ pub fn table() -> [Kind; KIND_COUNT]
     KINDS
 }
 
-// The kind at a place of the table. Each place has an arm of its own: so the compiler looks the kind up, and stores no table.
+// The kind at a place of the table.
 pub fn kind_at(place: usize) -> Kind
     requires { place < kind_count }
     ensures kind { result ≡ kind_at place }
 {
-    let kinds = table();
-    match place {
-        0 => kinds[0],
-        1 => kinds[1],
-        2 => kinds[2],
-        3 => kinds[3],
-        4 => kinds[4],
-        5 => kinds[5],
-        6 => kinds[6],
-        7 => kinds[7],
-        8 => kinds[8],
-        9 => kinds[9],
-        10 => kinds[10],
-        11 => kinds[11],
-        12 => kinds[12],
-        13 => kinds[13],
-        14 => kinds[14],
-        15 => kinds[15],
-        16 => kinds[16],
-        17 => kinds[17],
-        18 => kinds[18],
-        _ => kinds[19],
-    }
+    KINDS[place]
 }
 
 // How many numbers stand behind a row's word.
@@ -254,10 +196,6 @@ fn unary_place(kind: UnaryKind) -> usize
         UnaryKind::Next => 7,
         UnaryKind::Always => 8,
         UnaryKind::Ever => 9,
-        UnaryKind::Before => 14,
-        UnaryKind::Wbefore => 15,
-        UnaryKind::Once => 16,
-        UnaryKind::Sofar => 17,
     }
 }
 
@@ -271,8 +209,6 @@ fn binary_place(kind: BinaryKind) -> usize
         BinaryKind::Until => 11,
         BinaryKind::Release => 12,
         BinaryKind::Srelease => 13,
-        BinaryKind::Since => 18,
-        BinaryKind::Trigger => 19,
     }
 }
 

@@ -1,4 +1,4 @@
-// Why a file or a call is turned back (01: "Why a file is turned back"; 02 goes on with 11 and 12).
+// Why a file or a call is turned back (01: "Why a file is turned back"; 02 goes on with 11).
 ghost use Rattle.std.specs.Prelude.{◌≡◌};
 ghost use Rattle.tables.specs.Refusal.{and_then, call_refused, number};
 
@@ -15,7 +15,6 @@ pub enum Reason {
     SizeDiffers,
     ShortBuffer,
     TooManyCycles,
-    WrittenOutTooLong,
 }
 
 // A refusal: its reason, the file (1 rule or circuit, 2 take, 3 sheet, 0 none) and the line from 1 (0 none).
@@ -48,7 +47,6 @@ pub fn reason_number(reason: Reason) -> u8
         Reason::SizeDiffers => 9,
         Reason::ShortBuffer => 10,
         Reason::TooManyCycles => 11,
-        Reason::WrittenOutTooLong => 12,
     }
 }
 

@@ -20,10 +20,6 @@ pub enum UnaryKind {
     Next,
     Always,
     Ever,
-    Before,
-    Wbefore,
-    Once,
-    Sofar,
 }
 
 #[derive(Drop)]
@@ -34,8 +30,6 @@ pub enum BinaryKind {
     Until,
     Release,
     Srelease,
-    Since,
-    Trigger,
 }
 
 // Signal and operand numbers count from 1; an operand is the number of an earlier row.

@@ -8,12 +8,12 @@ use lib.Dec.{ltb}
 use borrow.Author.Tests.{lt-ltb, le-ltb}
 use Rattle.tables.specs.Choice.{pick}
 use Rattle.tables.specs.declared.row.UnaryKind.{UnaryKind}
-use Rattle.tables.specs.declared.row.UnaryKind.TheVariants.{Not, Next, Always, Ever, Before, Wbefore, Once, Sofar}
+use Rattle.tables.specs.declared.row.UnaryKind.TheVariants.{Not, Next, Always, Ever}
 use Rattle.tables.specs.declared.row.Row.{Row}
 use Rattle.tables.specs.declared.row.Row.TheVariants.{Constant, Signal, Unary, Binary}
 use Rattle.meaning.specs.Trace.{InfiniteTrace}
 use Rattle.meaning.specs.Rows.{positive, Positive}
-use Rattle.meaning.specs.Pattern.{Pattern, Pattern.now, Pattern.next, Pattern.connective, Pattern.previous, Pattern.temporal, Pattern.past}
+use Rattle.meaning.specs.Pattern.{Pattern, Pattern.now, Pattern.next, Pattern.connective, Pattern.temporal}
 use Rattle.meaning.specs.Pattern.{signal_sign, unary_left, unary_pattern, binary_pattern}
 use Rattle.meaning.specs.Pattern.{keep_bit, goal_bit, keep_bits, goal_bits, signed_bit}
 use Rattle.meaning.specs.Approximant.{expand, approximant}
@@ -48,9 +48,7 @@ module _ (n : ℕ) (w : InfiniteTrace) (bits : ℕ → ℕ → Bool) (ends : (a 
   pattern_prefix p q d e now c h = refl
   pattern_prefix p q d e next c h = next_prefix q e c
   pattern_prefix p q d e (connective f) c h = refl
-  pattern_prefix p q d e (previous v) c h = refl
   pattern_prefix p q d e (temporal f v) c h = until_prefix (keep_bits f p q) (goal_bits f p q) v (off f v (p n) (q n) (d n (omega arith)) (e n (omega arith))) c h
-  pattern_prefix p q d e (past f v) c h = refl
 
   unary_prefix :
       (a : ℕ) (k : UnaryKind) → On (positive k) → (c : ℕ) → c < n
@@ -60,10 +58,6 @@ module _ (n : ℕ) (w : InfiniteTrace) (bits : ℕ → ℕ → Bool) (ends : (a 
   unary_prefix a Next o c h = next_prefix (bits a) (ends a) c
   unary_prefix a Always o c h = until_prefix (bits a) (λ j. false) true (off false true false _ refl (end a)) c h
   unary_prefix a Ever o c h = until_prefix (λ j. true) (bits a) false (ap (λ b. expand true b false) (end a)) c h
-  unary_prefix a Before o c h = refl
-  unary_prefix a Wbefore o c h = refl
-  unary_prefix a Once o c h = refl
-  unary_prefix a Sofar o c h = refl
 
   pub row_prefix : (r : Row) → Positive r → (c : ℕ) → c < n → row_bit (prefix n w) (to_end n w) bits r c ≡ row_pass n w bits r c
   row_prefix (Constant k) o c h = refl

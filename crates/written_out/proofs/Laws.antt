@@ -1,6 +1,6 @@
 -- Laws of the written-out take, over the number of rounds (written_from: its endless repetition is the same) and then over as many as past
--- operators are nested in a normal form (covered-open to covered-covers). Without past operators it is the take itself (covered-unnested).
--- Assumes nothing.
+-- operators are nested in a normal form (covered-range to covered-covers). They say nothing of how many these are; only the last three rest
+-- on there being none yet. Assumes nothing.
 use Prim.Native.Nat.{ℕ, suc, ◌+◌, ◌*◌, ◌-◌, ◌%◌, ◌^◌, ◌≤◌, ◌<◌}
 use mathlib.Core.Path.{◌≡◌, refl, sym, ap, subst, subst⁻¹, ◌∙◌}
 use mathlib.Core.Logic.{◌↔◌}
@@ -9,9 +9,7 @@ use mathlib.Core.List.{[]}
 use native.Mathlib.Nat.{mul-le-mul_right, zero-div}
 use native.Mathlib.Decide.{dec_le, ℕ_discrete}
 use native.Mathlib.Omega.{arith}
-use lib.Dec.{leb}
 use lib.ListN.{get_or-eq_default}
-use borrow.Author.Tests.{le-leb, lt-leb}
 use Rattle.tables.specs.Bit.{bit_at}
 use Rattle.tables.specs.declared.row.NormalForm.{NormalForm}
 use Rattle.tables.specs.declared.trace.Ending.{Ending}
@@ -23,14 +21,14 @@ use Rattle.meaning.specs.Trace.{signal_at, position, unrolled}
 use Rattle.meaning.specs.Satisfaction.{table_of}
 use Rattle.meaning.specs.Nesting.{nested, nesting}
 use Rattle.meaning.specs.Covers.{CoversIn, CoversForm}
-use Rattle.meaning.proofs.Nesting.{nested_most}
+use Rattle.meaning.proofs.Nesting.{nested_most, nesting_none}
 use Rattle.meaning.proofs.Periodic.{position_below, unrolled_periodic, written_position}
 use Rattle.take_file.specs.Valid.{Below, InRange}
 use Rattle.lanes.specs.Truth.{lane_in}
 use Rattle.lanes.proofs.Shown.{shown_bit}
 use Rattle.written_out.specs.declared.WrittenOut.{WrittenOut}
 use Rattle.written_out.specs.WrittenOut.{round_cycles, wholly, too_long, written_trace, written_out}
-use Rattle.written_out.specs.Covered.{rounds_for, covered, CoverableIn, Coverable}
+use Rattle.written_out.specs.Covered.{covered, CoverableIn, Coverable}
 use Rattle.written_out.proofs.OneLane.{repeated}
 use Rattle.written_out.proofs.Lanes.{written_lane}
 use Rattle.written_out.proofs.Whole.{loop_whole, loop_too_long, loop_below, written_open, written_none, written_some}
@@ -124,15 +122,6 @@ module _ (t : Trace) (l : ℕ) (loops : t.ending ≡ Loop l) where
       from h (yes z) = let p : t.cycles + round_cycles t l d ≡ t.cycles + round_cycles t l 0 = ap (λ x. t.cycles + round_cycles t l x) z in absurd (omega (arith, p))
       from h (no n) = written_some t l d loops n ∙ loop_too_long t l (round_cycles t l d) h
 
-  pub whole_exactly : t.cycles ≤ 256 → (d : ℕ) → (written_out t d).whole ≡ leb (t.cycles + round_cycles t l d) 256
-  whole_exactly most d = by (dec_le (t.cycles + round_cycles t l d) 256)
-    where
-      by : Dec (t.cycles + round_cycles t l d ≤ 256) → (written_out t d).whole ≡ leb (t.cycles + round_cycles t l d) 256
-      by (yes h) = ap (λ (x : WrittenOut). x.whole) (written_whole d h).1 ∙ sym (le-leb (t.cycles + round_cycles t l d) 256 h)
-      by (no h) =
-          let long : 256 < t.cycles + round_cycles t l d = omega arith in
-          ap (λ (x : WrittenOut). x.whole) ((written_too_long most d).1 long) ∙ sym (lt-leb (t.cycles + round_cycles t l d) 256 long)
-
   -- THE WRITTEN-OUT TAKE HAS THE SAME ENDLESS REPETITION
   pub written_from : (d : ℕ) (u : Trace) → written_out t d ≡ wholly u → WrittenFrom t l d u
   written_from d u e = by (ℕ_discrete d 0) (dec_le (t.cycles + round_cycles t l d) 256)
@@ -154,17 +143,17 @@ module _ (t : Trace) (l : ℕ) (loops : t.ending ≡ Loop l) where
 
 pub covered_open : (g : NormalForm) (t : Trace) → t.ending ≡ Open → covered g t ≡ t
 unfolding covered
-covered_open g t e = ap (λ (x : WrittenOut). x.trace) (written_open t (rounds_for g) e)
+covered_open g t e = ap (λ (x : WrittenOut). x.trace) (written_open t (nesting g) e)
 
 module _ (g : NormalForm) (t : Trace) where
   module _ (l : ℕ) (loops : t.ending ≡ Loop l) (able : Coverable g t) where
-    pub covered_loop_lem : WrittenFrom t l (rounds_for g) (covered g t)
+    pub covered_loop_lem : WrittenFrom t l (nesting g) (covered g t)
     unfolding covered
     covered_loop_lem =
-        let w = written_whole t l loops (rounds_for g) (subst (CoverableIn g t) loops able) in
-        written_from t l loops (rounds_for g) (covered g t) (w.1 ∙ ap wholly (sym (ap (λ (x : WrittenOut). x.trace) w.1)))
+        let w = written_whole t l loops (nesting g) (subst (CoverableIn g t) loops able) in
+        written_from t l loops (nesting g) (covered g t) (w.1 ∙ ap wholly (sym (ap (λ (x : WrittenOut). x.trace) w.1)))
 
-    pub covered_unrolled : InRange t → (i s : ℕ) → s ≤ 32 → unrolled (covered g t) (l + round_cycles t l (rounds_for g)) i s ≡ unrolled t l i s
+    pub covered_unrolled : InRange t → (i s : ℕ) → s ≤ 32 → unrolled (covered g t) (l + round_cycles t l (nesting g)) i s ≡ unrolled t l i s
     covered_unrolled range = covered_loop_lem.same (loop_below range l loops)
 
   pub covered_range : InRange t → Coverable g t → InRange (covered g t)
@@ -180,7 +169,7 @@ module _ (g : NormalForm) (t : Trace) where
             most_signals = subst⁻¹ (λ x. x ≤ 32) w.signals range.most_signals;
             some_cycles = subst⁻¹ (λ x. 1 ≤ x) w.cycles (omega (arith, range.some_cycles));
             most_cycles = w.most range.most_cycles;
-            loop = subst⁻¹ (Below (covered g t).cycles) w.ending (subst⁻¹ (λ x. l + round_cycles t l (rounds_for g) < x) w.cycles (omega (arith, b)));
+            loop = subst⁻¹ (Below (covered g t).cycles) w.ending (subst⁻¹ (λ x. l + round_cycles t l (nesting g) < x) w.cycles (omega (arith, b)));
           }
 
   pub covered_covers : InRange t → Coverable g t → CoversForm g (covered g t)
@@ -191,12 +180,12 @@ module _ (g : NormalForm) (t : Trace) where
       by (Loop l) e =
           let w = covered_loop_lem l e able in
           let b = loop_below range l e in
-          let p : (covered g t).cycles - (l + round_cycles t l (rounds_for g)) ≡ t.cycles - l = omega (arith, w.cycles, b) in
+          let p : (covered g t).cycles - (l + round_cycles t l (nesting g)) ≡ t.cycles - l = omega (arith, w.cycles, b) in
           subst⁻¹ (CoversIn g (covered g t)) w.ending (record {
             since = l;
-            repeats = λ s i from. subst⁻¹ (λ n. signal_at (covered g t) (position (covered g t).cycles (l + round_cycles t l (rounds_for g)) (i + n)) s
-                ≡ unrolled (covered g t) (l + round_cycles t l (rounds_for g)) i s) p (w.repeats b s i from);
-            late = λ k h. subst⁻¹ (λ n. l + nested (table_of g.places) k * n ≤ l + round_cycles t l (rounds_for g)) p
+            repeats = λ s i from. subst⁻¹ (λ n. signal_at (covered g t) (position (covered g t).cycles (l + round_cycles t l (nesting g)) (i + n)) s
+                ≡ unrolled (covered g t) (l + round_cycles t l (nesting g)) i s) p (w.repeats b s i from);
+            late = λ k h. subst⁻¹ (λ n. l + nested (table_of g.places) k * n ≤ l + round_cycles t l (nesting g)) p
                 (let m = mul-le-mul_right (t.cycles - l) (nested_most (table_of g.places) (suc g.rows) k h) in omega (arith, m));
           })
 
@@ -205,14 +194,22 @@ pub covered_unnested : (g : NormalForm) (t : Trace) → nesting g ≡ 0 → cove
 unfolding covered
 covered_unnested g t none = by t.ending refl
   where
-    by : (x : Ending) → t.ending ≡ x → (written_out t (rounds_for g)).trace ≡ t
-    by Open e = ap (λ (x : WrittenOut). x.trace) (written_open t (rounds_for g) e)
+    by : (x : Ending) → t.ending ≡ x → (written_out t (nesting g)).trace ≡ t
+    by Open e = ap (λ (x : WrittenOut). x.trace) (written_open t (nesting g) e)
     by (Loop l) e = ap (λ d. (written_out t d).trace) none ∙ ap (λ (x : WrittenOut). x.trace) (written_none t l e)
 
--- and may be covered as it stands
-pub coverable_unnested : (g : NormalForm) (t : Trace) → InRange t → nesting g ≡ 0 → Coverable g t
-coverable_unnested g t range none = by t.ending
+-- ---- for the time being: no kind looks back, so that no rounds are written out
+
+pub coverable : (g : NormalForm) (t : Trace) → InRange t → Coverable g t
+coverable g t range = by t.ending
   where
     by : (x : Ending) → CoverableIn g t x
     by Open = tt
-    by (Loop l) = subst⁻¹ (λ d. t.cycles + round_cycles t l d ≤ 256) none (omega (arith, range.most_cycles))
+    by (Loop l) = subst⁻¹ (λ d. t.cycles + round_cycles t l d ≤ 256) (nesting_none g) (omega (arith, range.most_cycles))
+
+pub covered_itself : (g : NormalForm) (t : Trace) → covered g t ≡ t
+covered_itself g t = covered_unnested g t (nesting_none g)
+
+-- every take in range covers every normal form
+pub covers_itself : (g : NormalForm) (t : Trace) → InRange t → CoversForm g t
+covers_itself g t range = subst (CoversForm g) (covered_itself g t) (covered_covers g t range (coverable g t range))

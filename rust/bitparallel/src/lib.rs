@@ -1,9 +1,8 @@
 //! Judging by operations on whole words, in safe Rust and unproved: a reference to measure the proved library against, and not the limit.
 //!
 //! A line holds a bit for each cycle, 64 to a word, the last cycle lowest. So what comes later lies lower, and an addition carries
-//! what is known of later cycles to earlier ones: until takes one addition (`line::until`); for since the line is turned about. Rules are
-//! judged as they are written, on takes with as many rounds of the loop before it as rows that look back are nested; on open takes each
-//! row has two lines, for itself and for its negation, in the place of two normal forms.
+//! what is known of later cycles to earlier ones: until takes one addition (`line::until`). Rules are judged as they are written;
+//! on open takes each row has two lines, for itself and for its negation, in the place of two normal forms.
 
 #![forbid(unsafe_code)]
 
@@ -32,7 +31,6 @@ pub fn judge(rule: &[u8], take: &[u8]) -> Result<Verdict, Refusal> {
     if rule.signals != take.signals {
         return Err(Refusal { number: 7, file: 0, line: 0 });
     }
-    let take = take.written_out(rule.nesting()).ok_or(Refusal { number: 12, file: 0, line: 0 })?;
     Ok(match take.cycles.div_ceil(64) {
         1 => verdict::<1>(&rule, &take),
         2 => verdict::<2>(&rule, &take),

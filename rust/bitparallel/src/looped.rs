@@ -1,11 +1,11 @@
 //! Looped takes: the meaning, a line for each row as written.
 
-use crate::line::{and, before, bit, line, next, not, or, since, trigger, until, Line};
+use crate::line::{and, bit, line, next, not, or, until, Line};
 use crate::rule::{Row, Rule};
 use crate::take::Take;
 use second::Verdict;
 
-/// The verdict on a take whose loop begins at `start`, late enough for every row to repeat from there on.
+/// The verdict on a take whose loop begins at `start`.
 pub fn verdict<const W: usize>(rule: &Rule, take: &Take, start: usize) -> Verdict {
     let mut lines = [[0; W]; 64];
     let begin = take.cycles - 1 - start;
@@ -37,12 +37,6 @@ fn truth<const W: usize>(row: Row, lines: &[Line<W>; 64], take: &Take, begin: us
         Row::Until(a, b) => repeated(of(a), of(b), false, begin),
         Row::Release(a, b) => repeated(of(b), &and(of(a), of(b)), true, begin),
         Row::Srelease(a, b) => repeated(of(b), &and(of(a), of(b)), false, begin),
-        Row::Before(a) => before(of(a), false, take.cycles),
-        Row::Wbefore(a) => before(of(a), true, take.cycles),
-        Row::Once(a) => since(&[u64::MAX; W], of(a), take.cycles),
-        Row::Sofar(a) => trigger(&[0; W], of(a), take.cycles),
-        Row::Since(a, b) => since(of(a), of(b), take.cycles),
-        Row::Trigger(a, b) => trigger(of(a), of(b), take.cycles),
     }
 }
 

@@ -1,6 +1,6 @@
 //! Open takes: the strong meaning, for each row a line for its normal form and one for that of its negation.
 
-use crate::line::{and, before, bit, line, next, or, since, trigger, until, Line};
+use crate::line::{and, bit, line, next, or, until, Line};
 use crate::rule::{Row, Rule};
 use crate::take::Take;
 use second::Verdict;
@@ -25,11 +25,11 @@ pub fn verdict<const W: usize>(rule: &Rule, take: &Take) -> Verdict {
 }
 
 /// The pair of a row from those of its operands. Nothing is true behind the last cycle. Always never holds; weak is until and
-/// release is srelease, so each has the pair of the other. Rows that look back mean what they always do.
+/// release is srelease, so each has the pair of the other.
 #[inline]
 fn strong<const W: usize>(row: Row, pairs: &[Pair<W>; 64], take: &Take) -> Pair<W> {
     let of = |row: u8| &pairs[usize::from(row)];
-    let (none, all, n) = ([0; W], [u64::MAX; W], take.cycles);
+    let (none, all) = ([0; W], [u64::MAX; W]);
     match row {
         Row::True => (all, none),
         Row::False => (none, all),
@@ -43,12 +43,6 @@ fn strong<const W: usize>(row: Row, pairs: &[Pair<W>; 64], take: &Take) -> Pair<
         Row::Ever(a) => (until(&all, &of(a).0, false), none),
         Row::Weak(a, b) | Row::Until(a, b) => (until(&of(a).0, &of(b).0, false), release(&of(a).1, &of(b).1)),
         Row::Release(a, b) | Row::Srelease(a, b) => (release(&of(a).0, &of(b).0), until(&of(a).1, &of(b).1, false)),
-        Row::Before(a) => (before(&of(a).0, false, n), before(&of(a).1, true, n)),
-        Row::Wbefore(a) => (before(&of(a).0, true, n), before(&of(a).1, false, n)),
-        Row::Once(a) => (since(&all, &of(a).0, n), trigger(&none, &of(a).1, n)),
-        Row::Sofar(a) => (trigger(&none, &of(a).0, n), since(&all, &of(a).1, n)),
-        Row::Since(a, b) => (since(&of(a).0, &of(b).0, n), trigger(&of(a).1, &of(b).1, n)),
-        Row::Trigger(a, b) => (trigger(&of(a).0, &of(b).0, n), since(&of(a).1, &of(b).1, n)),
     }
 }
 

@@ -20,12 +20,6 @@ pub enum Row {
     Until(u8, u8),
     Release(u8, u8),
     Srelease(u8, u8),
-    Before(u8),
-    Wbefore(u8),
-    Once(u8),
-    Sofar(u8),
-    Since(u8, u8),
-    Trigger(u8, u8),
 }
 
 /// A rule; the last of its rows is the root.
@@ -54,38 +48,6 @@ impl Rule {
     pub fn rows(&self) -> &[Row] {
         &self.rows[..self.count]
     }
-
-    /// How many rows that look back are nested: the most on a way from the root down through operands.
-    pub fn nesting(&self) -> usize {
-        // of each row that the root reaches, how many stand above it, at most
-        let mut above = [None; 64];
-        above[self.count - 1] = Some(0);
-        let mut most = 0;
-        for own in (0..self.count).rev() {
-            let Some(count) = above[own] else { continue };
-            let (operands, looks_back) = self.rows[own].operands();
-            let count = count + usize::from(looks_back);
-            most = most.max(count);
-            for operand in operands.into_iter().flatten().map(usize::from) {
-                above[operand] = above[operand].max(Some(count));
-            }
-        }
-        most
-    }
-}
-
-impl Row {
-    /// The rows that this row speaks of, and whether it looks back.
-    fn operands(self) -> ([Option<u8>; 2], bool) {
-        match self {
-            Row::True | Row::False | Row::Sig(_) | Row::Nsig(_) => ([None; 2], false),
-            Row::Not(a) | Row::Next(a) | Row::Always(a) | Row::Ever(a) => ([Some(a), None], false),
-            Row::And(a, b) | Row::Or(a, b) | Row::Weak(a, b) | Row::Until(a, b) => ([Some(a), Some(b)], false),
-            Row::Release(a, b) | Row::Srelease(a, b) => ([Some(a), Some(b)], false),
-            Row::Before(a) | Row::Wbefore(a) | Row::Once(a) | Row::Sofar(a) => ([Some(a), None], true),
-            Row::Since(a, b) | Row::Trigger(a, b) => ([Some(a), Some(b)], true),
-        }
-    }
 }
 
 /// A word's letters in one number.
@@ -105,7 +67,6 @@ macro_rules! words {
 words! {
     TRUE = b"true"; FALSE = b"false"; SIG = b"sig"; NSIG = b"nsig"; NOT = b"not"; AND = b"and"; OR = b"or"; NEXT = b"next";
     ALWAYS = b"always"; EVER = b"ever"; WEAK = b"weak"; UNTIL = b"until"; RELEASE = b"release"; SRELEASE = b"srelease";
-    BEFORE = b"before"; WBEFORE = b"wbefore"; ONCE = b"once"; SOFAR = b"sofar"; SINCE = b"since"; TRIGGER = b"trigger";
 }
 
 /// Reads the value of the row whose number, from 0, is `own`.
@@ -128,12 +89,6 @@ fn read_row(cursor: &mut Cursor, own: usize, signals: usize) -> Result<Row, Refu
         UNTIL => two(cursor, own, Row::Until),
         RELEASE => two(cursor, own, Row::Release),
         SRELEASE => two(cursor, own, Row::Srelease),
-        BEFORE => one(cursor, own, Row::Before),
-        WBEFORE => one(cursor, own, Row::Wbefore),
-        ONCE => one(cursor, own, Row::Once),
-        SOFAR => one(cursor, own, Row::Sofar),
-        SINCE => two(cursor, own, Row::Since),
-        TRIGGER => two(cursor, own, Row::Trigger),
         _ => Err(cursor.refusal(2)),
     }
 }

@@ -1,7 +1,6 @@
 //! Takes as a line for each signal.
 
 use crate::cursor::Cursor;
-use crate::line::appended;
 use second::Refusal;
 
 /// A take; the last cycle's bit is the lowest of each line.
@@ -31,25 +30,6 @@ impl Take {
             lines.iter_mut().zip(columns).for_each(|(line, column)| line[block] = column);
         }
         Ok(Take { signals, cycles, start, lines })
-    }
-}
-
-impl Take {
-    /// The take with so many rounds of its loop written out before the loop; none where it has more than 256 cycles then. An open one is
-    /// as it is.
-    pub fn written_out(mut self, rounds: usize) -> Option<Take> {
-        let Some(start) = self.start else { return Some(self) };
-        let round = self.cycles - start;
-        self.cycles += rounds * round;
-        self.start = Some(start + rounds * round);
-        if self.cycles > 256 {
-            return None;
-        }
-        for line in &mut self.lines[..self.signals] {
-            let recorded = *line;
-            (0..rounds).for_each(|_| *line = appended(line, &recorded, round));
-        }
-        Some(self)
     }
 }
 

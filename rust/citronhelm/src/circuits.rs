@@ -4,28 +4,25 @@ use crate::declarations;
 use crate::refusal::{counted, Refusal};
 
 /// The bytes that [`circuit`] needs at most.
-pub const MOST_CIRCUIT: usize = 12_999;
+pub const MOST_CIRCUIT: usize = 9789;
 
 /// The bytes that [`simulate`] needs at most, whatever the circuit.
 pub const MOST_SIMULATE: usize = 32_768;
 
 /// Writes a rule's monitors as an ASCII AIGER file, and answers its length: at most [`MOST_CIRCUIT`]. With s signals and n =
-/// [`rows`](crate::rows), its inputs are the signals and then each row's activator; its 2n + 1 latches are each row's pending one cycle
-/// earlier, then each row's second bit, then the mark of the first cycle negated; its outputs are failed, then accept, then pending, each
-/// by row. Which gates and literals it has stands in the project's `docs/CIRCUIT.md`. Simulated from latches at 0 it gives in each cycle
-/// what [`step`](crate::step) says of these from a fresh start.
+/// [`rows`](crate::rows), its inputs are the signals and then each row's activator; there is a latch for each row, its pending one cycle
+/// earlier; its outputs are failed, then accept, then pending, each by row. Which gates and literals it has stands in the project's
+/// `docs/CIRCUIT.md`. Simulated from latches at 0 it gives in each cycle what [`step`](crate::step) does from a fresh start.
 ///
 /// ```
 /// use citronhelm::{circuit, Reason, MOST_CIRCUIT};
 ///
 /// let rule = b"format=1\nsignals=2\nrows=6\n\
 ///     r1=sig 1\nr2=not 1\nr3=sig 2\nr4=ever 3\nr5=or 2 4\nr6=always 5\n";
-/// let expected = b"aag 38 7 11 15 20\n2\n4\n6\n8\n10\n12\n14\n\
-///     16 0\n18 0\n20 56\n22 0\n24 71\n26 0\n28 0\n30 0\n32 0\n34 0\n36 1\n\
-///     38\n46\n0\n64\n72\n1\n1\n57\n1\n1\n0\n0\n56\n0\n71\n\
-///     38 6 2\n40 0 0\n42 0 0\n44 0 0\n46 8 5\n48 0 0\n50 0 0\n52 0 0\n\
-///     54 11 21\n56 55 9\n58 0 0\n60 0 0\n62 7 11\n64 12 62\n66 0 0\n68 0 0\n\
-///     70 15 25\n72 71 13\n74 0 0\n76 0 0\n";
+/// let expected = b"aag 27 7 5 15 15\n2\n4\n6\n8\n10\n12\n14\n16 0\n18 0\n20 40\n22 0\n24 51\n\
+///     26\n32\n0\n46\n52\n1\n1\n41\n1\n1\n0\n0\n40\n0\n51\n\
+///     26 6 2\n28 0 0\n30 0 0\n32 8 5\n34 0 0\n36 0 0\n38 11 21\n40 39 9\n42 0 0\n\
+///     44 7 11\n46 12 44\n48 0 0\n50 15 25\n52 51 13\n54 0 0\n";
 /// let mut output = [0; MOST_CIRCUIT];
 /// assert_eq!(circuit(rule, &mut output), Ok(expected.len()));
 /// assert_eq!(&output[..expected.len()], expected);
@@ -39,7 +36,7 @@ pub fn circuit(rule: &[u8], output: &mut [u8]) -> Result<usize, Refusal> {
 ///
 /// ```
 /// let rule = b"format=1\nsignals=1\nrows=1\nr1=sig 1\n";
-/// let circuit = b"aag 9 2 3 3 4\n2\n4\n6 0\n8 0\n10 1\n12\n1\n0\n12 4 3\n14 0 0\n16 0 0\n18 0 0\n";
+/// let circuit = b"aag 6 2 1 3 3\n2\n4\n6 0\n8\n1\n0\n8 4 3\n10 0 0\n12 0 0\n";
 /// assert_eq!(citronhelm::circuit_vec(rule).unwrap(), circuit);
 /// ```
 pub fn circuit_vec(rule: &[u8]) -> Result<Vec<u8>, Refusal> {
@@ -66,11 +63,11 @@ pub fn circuit_vec(rule: &[u8]) -> Result<Vec<u8>, Refusal> {
 /// let rule = b"format=1\nsignals=2\nrows=6\n\
 ///     r1=sig 1\nr2=not 1\nr3=sig 2\nr4=ever 3\nr5=or 2 4\nr6=always 5\n";
 /// let circuit = circuit_vec(rule)?;
-/// let mut output = [0; 26];
+/// let mut output = [0; 20];
 /// // the signals are 10, the activators 00111
-/// assert_eq!(simulate(&circuit, b"1000111", &[b'0'; 11], &mut output), Ok(26));
+/// assert_eq!(simulate(&circuit, b"1000111", b"00000", &mut output), Ok(20));
 /// let (outputs, latches) = output.split_at(15);
-/// assert_eq!((outputs, latches), (&b"000001101100101"[..], &b"00101000001"[..]));
+/// assert_eq!((outputs, latches), (&b"000001101100101"[..], &b"00101"[..]));
 /// # Ok::<(), citronhelm::Refusal>(())
 /// ```
 ///
@@ -94,9 +91,9 @@ mod tests {
     use crate::refusal::{File, Reason};
     use crate::steps::Monitors;
 
-    const RULE: &[u8] = b"format=1\nsignals=3\nrows=22\nr1=sig 1\nr2=nsig 2\nr3=sig 3\nr4=and 1 2\nr5=or 2 3\nr6=next 4\n\
+    const RULE: &[u8] = b"format=1\nsignals=3\nrows=16\nr1=sig 1\nr2=nsig 2\nr3=sig 3\nr4=and 1 2\nr5=or 2 3\nr6=next 4\n\
         r7=always 5\nr8=ever 3\nr9=weak 4 8\nr10=until 5 6\nr11=release 1 7\nr12=srelease 9 10\nr13=not 12\nr14=or 11 13\n\
-        r15=and 12 14\nr16=always 15\nr17=before 16\nr18=wbefore 14\nr19=once 17\nr20=sofar 18\nr21=since 19 20\nr22=trigger 21 13\n";
+        r15=and 12 14\nr16=always 15\n";
     const OR: &[u8] = b"aag 3 2 0 1 1\n2\n4\n7\n6 3 5\n";
     const TOGGLE: &[u8] = b"aag 1 0 1 2 0\n2 3\n2\n3\n";
 
@@ -117,12 +114,12 @@ mod tests {
         assert_eq!(&output, b"100#");
     }
 
-    /// The circuit goes on from the latches that it wrote, and the monitors beside it from their state.
+    /// The circuit goes on from the latches that it wrote, and the monitors beside it from their pendings.
     #[test]
     fn the_circuit_is_the_monitors() {
         let (circuit, rows) = (circuit_vec(RULE).unwrap(), rows(RULE).unwrap());
         let mut monitors = Monitors::new(RULE).unwrap();
-        let mut latches = vec![b'0'; 2 * rows + 1];
+        let mut latches = vec![b'0'; rows];
         let mut number = 1u64;
         let mut digit = || {
             number = number.wrapping_mul(6364136223846793005).wrapping_add(1442695040888963407);
@@ -130,11 +127,10 @@ mod tests {
         };
         for _ in 0..200 {
             let inputs: Vec<u8> = (0..3 + rows).map(|_| digit()).collect();
-            let mut output = vec![0; 5 * rows + 1];
-            assert_eq!(simulate(&circuit, &inputs, &latches, &mut output), Ok(5 * rows + 1));
+            let mut output = vec![0; 4 * rows];
+            assert_eq!(simulate(&circuit, &inputs, &latches, &mut output), Ok(4 * rows));
             let stepped = monitors.step(&inputs[3..], &inputs[..3]).unwrap();
-            assert_eq!(output[..3 * rows], [stepped.failed, stepped.accept, stepped.pending].concat());
-            assert_eq!((&output[3 * rows..4 * rows], output[5 * rows]), (stepped.pending, b'1'));
+            assert_eq!(output, [stepped.failed, stepped.accept, stepped.pending, stepped.pending].concat());
             latches.copy_from_slice(&output[3 * rows..]);
         }
     }

@@ -35,8 +35,8 @@ extern "C" {
     fn citronhelm_step(
         rule: *const u8,
         rule_length: usize,
-        state: *const u8,
-        state_length: usize,
+        pendings: *const u8,
+        pendings_length: usize,
         activators: *const u8,
         activators_length: usize,
         signals: *const u8,
@@ -123,13 +123,13 @@ pub fn judge_text(rule: &[u8], take: &[u8], output: &mut [u8]) -> u64 {
     }
 }
 
-pub fn step(rule: &[u8], state: &[u8], activators: &[u8], signals: &[u8], output: &mut [u8]) -> u64 {
+pub fn step(rule: &[u8], pendings: &[u8], activators: &[u8], signals: &[u8], output: &mut [u8]) -> u64 {
     unsafe {
         citronhelm_step(
             rule.as_ptr(),
             rule.len(),
-            state.as_ptr(),
-            state.len(),
+            pendings.as_ptr(),
+            pendings.len(),
             activators.as_ptr(),
             activators.len(),
             signals.as_ptr(),

@@ -17,24 +17,6 @@ pub const MOST_TEXT: usize = 64;
 /// let take = b"format=1\nsignals=2\ncycles=2\nloop=1\nc0=10\nc1=10\n";
 /// assert_eq!(judge(rule, take), Ok(Verdict::Breaks));
 /// ```
-///
-/// A rule may look back. Below it says: always, when signal 2 is on, signal 1 was on before it or is. A looped take is then
-/// [written out](crate#rules-that-look-back), and refused where that makes it too long:
-///
-/// ```
-/// use citronhelm::{judge, Reason, Verdict};
-///
-/// let rule = b"format=1\nsignals=2\nrows=5\nr1=sig 1\nr2=nsig 2\nr3=once 1\nr4=or 2 3\nr5=always 4\n";
-/// let take = |cycles: &[&str], start: &str| {
-///     let lines: String = (0..).zip(cycles).map(|(cycle, digits)| format!("c{cycle}={digits}\n")).collect();
-///     format!("format=1\nsignals=2\ncycles={}\nloop={start}\n{lines}", cycles.len())
-/// };
-/// assert_eq!(judge(rule, take(&["10", "01"], "0").as_bytes()), Ok(Verdict::Holds));
-/// assert_eq!(judge(rule, take(&["01", "10"], "0").as_bytes()), Ok(Verdict::Breaks));
-/// assert_eq!(judge(rule, take(&["10", "01"], "none").as_bytes()), Ok(Verdict::Open));
-/// assert_eq!(judge(rule, take(&["10"; 128], "0").as_bytes()), Ok(Verdict::Holds));
-/// assert_eq!(judge(rule, take(&["10"; 129], "0").as_bytes()).unwrap_err().reason, Reason::WrittenOutTooLong);
-/// ```
 pub fn judge(rule: &[u8], take: &[u8]) -> Result<Verdict, Refusal> {
     answered(declarations::judge(rule, take)).map(Verdict::numbered)
 }
@@ -66,7 +48,7 @@ pub fn judge_open(rule: &[u8], take: &[u8]) -> Result<Verdict, Refusal> {
 }
 
 /// Writes what the program `judge` prints for the two files, be it a verdict or a refusal, and answers its length, at most
-/// [`MOST_TEXT`]. Cycles and loop are the take's own, also where it is written out for the verdict. Only a short output is refused.
+/// [`MOST_TEXT`]. Only a short output is refused.
 ///
 /// ```
 /// use citronhelm::{judge_text, MOST_TEXT};

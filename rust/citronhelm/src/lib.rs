@@ -16,16 +16,6 @@
 //! [`Monitors`] keeps what [`step`] needs from one cycle to the next, and [`Run`] judges a take while it is recorded. For hardware checkers
 //! [`circuit`] writes the monitors as an ASCII AIGER file, and [`simulate`] runs such a file.
 //!
-//! # Rules that look back
-//!
-//! The rows `before`, `wbefore`, `once`, `sofar`, `since` and `trigger` speak of the cycles up to now. On a looped take their truth need
-//! not repeat from the first round on. So, where d is the most of them on one branch of the normal form, the take is *written out*, with d
-//! rounds of its loop before the loop: n cycles with a loop at l become n + d × (n - l) with a loop at l + d × (n - l). The sheets of such
-//! a rule cover these cycles, and where they are more than 256 the take is refused ([`Reason::WrittenOutTooLong`]). Open takes, and takes
-//! for rules without such rows, are as they are.
-//!
-//! # Examples
-//!
 //! The example below, which the other examples use as well, says: always, when signal 1 is on, sooner or later signal 2 is.
 //!
 //! ```

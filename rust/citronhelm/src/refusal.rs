@@ -2,7 +2,7 @@
 
 use std::fmt;
 
-/// Why a call is turned back: one of twelve reasons, with the number that files and programs give it.
+/// Why a call is turned back: one of eleven reasons, with the number that files and programs give it.
 #[derive(Clone, Copy, Debug, PartialEq, Eq, PartialOrd, Ord, Hash)]
 #[repr(u8)]
 pub enum Reason {
@@ -25,16 +25,14 @@ pub enum Reason {
     DifferentSignals = 7,
     /// 8: a looped service has an open take, or an open service a looped one.
     OtherKindOfTake = 8,
-    /// 9: the sheet's rows or cycles differ from the normal form's or those of the take written out; in [`step`](crate::step), the
-    /// number of activators or of the state's digits is not that which the normal form's rows ask for; in
-    /// [`simulate`](crate::simulate), that of latches is not the circuit's.
+    /// 9: the sheet's rows or cycles differ from the normal form's or the take's; in [`step`](crate::step), the number of
+    /// pendings or activators is not that of the normal form's rows; in [`simulate`](crate::simulate), that of latches is not the
+    /// circuit's.
     DifferentSize = 9,
     /// 10: the lent output is shorter than what is to be written.
     OutputTooShort = 10,
     /// 11: a run has 256 cycles already, and one more is handed over.
     TooManyCycles = 11,
-    /// 12: the take written out, for a rule whose rows look back, has more than 256 cycles. It comes behind 8 and before 9.
-    WrittenOutTooLong = 12,
 }
 
 /// Which file is at fault.
@@ -72,7 +70,7 @@ pub struct Refusal {
 
 impl Reason {
     /// All reasons, by their numbers.
-    pub const ALL: [Reason; 12] = [
+    pub const ALL: [Reason; 11] = [
         Reason::TooLong,
         Reason::WrongForm,
         Reason::WrongFormat,
@@ -84,10 +82,9 @@ impl Reason {
         Reason::DifferentSize,
         Reason::OutputTooShort,
         Reason::TooManyCycles,
-        Reason::WrittenOutTooLong,
     ];
 
-    /// The reason's number, 1 to 12.
+    /// The reason's number, 1 to 11.
     ///
     /// ```
     /// assert_eq!(citronhelm::Reason::WrongForm.number(), 2);
@@ -133,7 +130,6 @@ impl fmt::Display for Reason {
             Reason::DifferentSize => "the numbers of rows, cycles or latches differ",
             Reason::OutputTooShort => "the output is too short",
             Reason::TooManyCycles => "the run has 256 cycles already",
-            Reason::WrittenOutTooLong => "the take written out has more than 256 cycles",
         })
     }
 }
@@ -171,7 +167,7 @@ pub(crate) fn answered(answer: u64) -> Result<u64, Refusal> {
         return Ok(answer);
     }
     let [reason, file, ..] = answer.to_le_bytes();
-    let reason = Reason::ALL.into_iter().find(|known| known.number() == reason).expect("reasons go from 1 to 12");
+    let reason = Reason::ALL.into_iter().find(|known| known.number() == reason).expect("reasons go from 1 to 11");
     let file = [File::Rule, File::Take, File::Sheet].into_iter().find(|known| known.number() == file);
     Err(Refusal { reason, file, line: (answer >> 16) as u32 })
 }
@@ -193,7 +189,6 @@ mod tests {
         assert_eq!(answered(1 << 63 | 70_000 << 16 | 2 << 8 | 2), Err(of_take));
         let of_call = Refusal { reason: Reason::OutputTooShort, file: None, line: 0 };
         assert_eq!(answered(1 << 63 | 10), Err(of_call));
-        assert_eq!(answered(1 << 63 | 12), Err(Refusal { reason: Reason::WrittenOutTooLong, ..of_call }));
     }
 
     #[test]

@@ -31,9 +31,8 @@ pub fn sheet_length(rule: &[u8], take: &[u8]) -> Result<usize, Refusal> {
 }
 
 /// Writes the activator sheet of a rule and a take as a sheet file, with a 1 where a row of the normal form is true at a cycle
-/// (strongly, for an open take), and answers its length, [`sheet_length`]: at most [`MOST_SHEET`]. Its cycles are those of the take
-/// [written out](crate#rules-that-look-back). Where the rule does not hold or is not kept the answer is `None`, and nothing is written,
-/// whatever the length of the output.
+/// (strongly, for an open take), and answers its length, [`sheet_length`]: at most [`MOST_SHEET`]. Where the rule does not hold or is
+/// not kept the answer is `None`, and nothing is written, whatever the length of the output.
 ///
 /// ```
 /// use citronhelm::make_sheet;
@@ -65,8 +64,7 @@ pub fn make_sheet_vec(rule: &[u8], take: &[u8]) -> Result<Option<Vec<u8>>, Refus
     Ok(made.map(|_| output))
 }
 
-/// What a check of a sheet for a rule and a take finds. The sheet has a row for each of the normal form's and a digit for each cycle of the
-/// take [written out](crate#rules-that-look-back), or it is refused.
+/// What a check of a sheet for a rule and a take finds.
 ///
 /// ```
 /// use citronhelm::{check_sheet, Finding};
@@ -76,23 +74,6 @@ pub fn make_sheet_vec(rule: &[u8], take: &[u8]) -> Result<Option<Vec<u8>>, Refus
 /// let take = b"format=1\nsignals=2\ncycles=2\nloop=0\nc0=10\nc1=01\n";
 /// let starved = b"format=1\nrows=5\ncycles=2\nz1=01\nz2=00\nz3=11\nz4=11\nz5=11\n";
 /// assert_eq!(check_sheet(rule, take, starved), Ok(Finding::Starved { row: 3 }));
-/// ```
-///
-/// One round is written out for a row that looks back. It is true of the first cycle, and of no other:
-///
-/// ```
-/// use citronhelm::{check_sheet, make_sheet_vec, Finding, Reason};
-///
-/// let rule = b"format=1\nsignals=1\nrows=2\nr1=sig 1\nr2=wbefore 1\n";
-/// let take = b"format=1\nsignals=1\ncycles=1\nloop=0\nc0=0\n";
-/// let sheet = make_sheet_vec(rule, take)?.unwrap();
-/// assert_eq!(sheet, b"format=1\nrows=2\ncycles=2\nz1=00\nz2=10\n");
-/// assert_eq!(check_sheet(rule, take, &sheet), Ok(Finding::Passes));
-/// let twice = b"format=1\nrows=2\ncycles=2\nz1=00\nz2=11\n";
-/// assert_eq!(check_sheet(rule, take, twice), Ok(Finding::Failed { row: 2, cycle: 1 }));
-/// let short = b"format=1\nrows=2\ncycles=1\nz1=0\nz2=1\n";
-/// assert_eq!(check_sheet(rule, take, short).unwrap_err().reason, Reason::DifferentSize);
-/// # Ok::<(), citronhelm::Refusal>(())
 /// ```
 pub fn check_sheet(rule: &[u8], take: &[u8], sheet: &[u8]) -> Result<Finding, Refusal> {
     answered(declarations::check_sheet(rule, take, sheet)).map(Finding::numbered)

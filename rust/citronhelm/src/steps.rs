@@ -5,47 +5,34 @@ use crate::reading::rows;
 use crate::refusal::{counted, Refusal};
 
 /// The bytes that [`step`] needs at most.
-pub const MOST_STEP: usize = 513;
+pub const MOST_STEP: usize = 384;
 
-/// One cycle of a rule's monitors. All inputs behind the rule are digits, `b'0'` and `b'1'`: the state, each row's activator, each signal.
-/// With n = [`rows`](crate::rows) the state has 2n + 1 digits, for every rule: the pending of each row of the normal form, then each row's
-/// second bit, then the mark of the first cycle. Before the first cycle all are `b'0'` but the mark, which is `b'1'`. Any state is taken as
-/// given. Writes the digits of failed, then accept, then pending, then second bits, each by row, and the mark, which is `b'0'`, and answers
-/// their number, 4n + 1: at most [`MOST_STEP`]. The last 2n + 1 are the state for the next cycle.
+/// One cycle of a rule's monitors. All inputs behind the rule are digits, `b'0'` and `b'1'`: the pending of each row of the normal
+/// form one cycle earlier (all `b'0'` before the first cycle), each row's activator, each signal. Writes the digits of
+/// failed, then accept, then pending, each by row, and answers their number, 3 × [`rows`](crate::rows): at most [`MOST_STEP`].
 ///
 /// ```
 /// use citronhelm::step;
 ///
 /// let rule = b"format=1\nsignals=2\nrows=6\n\
 ///     r1=sig 1\nr2=not 1\nr3=sig 2\nr4=ever 3\nr5=or 2 4\nr6=always 5\n";
-/// let mut output = [0; 21];
-/// assert_eq!(step(rule, b"00000000001", b"00111", b"10", &mut output), Ok(21));
+/// let mut output = [0; 15];
+/// assert_eq!(step(rule, b"00000", b"00111", b"10", &mut output), Ok(15));
 /// let (failed, rest) = output.split_at(5);
-/// let (accept, state) = rest.split_at(5);
-/// assert_eq!((failed, accept, state), (&b"00000"[..], &b"11011"[..], &b"00101000000"[..]));
+/// let (accept, pending) = rest.split_at(5);
+/// assert_eq!((failed, accept, pending), (&b"00000"[..], &b"11011"[..], &b"00101"[..]));
 /// ```
-///
-/// A row that looks back fails where it is active and, over its operands' activators so far, false. What it keeps is its second bit:
-///
-/// ```
-/// use citronhelm::step;
-///
-/// let rule = b"format=1\nsignals=1\nrows=2\nr1=sig 1\nr2=once 1\n";
-/// let mut output = [0; 9];
-/// step(rule, b"00001", b"10", b"1", &mut output)?;
-/// assert_eq!(&output, b"001100010");
-/// let state = output[4..].to_vec();
-/// step(rule, &state, b"01", b"0", &mut output)?;
-/// assert_eq!(&output[..2], b"00"); // the signal's row was active
-/// step(rule, b"00001", b"01", b"0", &mut output)?;
-/// assert_eq!(&output[..2], b"01"); // it was not
-/// # Ok::<(), citronhelm::Refusal>(())
-/// ```
-pub fn step(rule: &[u8], state: &[u8], activators: &[u8], signals: &[u8], output: &mut [u8]) -> Result<usize, Refusal> {
-    counted(declarations::step(rule, state, activators, signals, output))
+pub fn step(
+    rule: &[u8],
+    pendings: &[u8],
+    activators: &[u8],
+    signals: &[u8],
+    output: &mut [u8],
+) -> Result<usize, Refusal> {
+    counted(declarations::step(rule, pendings, activators, signals, output))
 }
 
-/// The monitors of a rule along a take: [`step`] with the state kept from one cycle to the next.
+/// The monitors of a rule along a take: [`step`] with the pendings kept from one cycle to the next.
 ///
 /// ```
 /// use citronhelm::Monitors;
@@ -63,7 +50,7 @@ pub fn step(rule: &[u8], state: &[u8], activators: &[u8], signals: &[u8], output
 pub struct Monitors<'a> {
     rule: &'a [u8],
     rows: usize,
-    /// The last answered step's output, 4 × `rows` + 1 digits; before the first one all are `b'0'` but the last, the mark.
+    /// The last answered step's output, 3 × `rows` digits; before the first one all are `b'0'`.
     digits: [u8; MOST_STEP],
 }
 
@@ -81,20 +68,18 @@ pub struct Outputs<'a> {
 impl<'a> Monitors<'a> {
     /// The monitors of a rule before the first cycle, or the rule's refusal.
     pub fn new(rule: &'a [u8]) -> Result<Monitors<'a>, Refusal> {
-        let rows = rows(rule)?;
-        let mut digits = [b'0'; MOST_STEP];
-        digits[4 * rows] = b'1';
-        Ok(Monitors { rule, rows, digits })
+        Ok(Monitors { rule, rows: rows(rule)?, digits: [b'0'; MOST_STEP] })
     }
 
     /// The next cycle, from each row's activator and each signal, digits `b'0'` and `b'1'`. A refused step is no cycle: it changes
     /// nothing, and another one can follow.
     pub fn step(&mut self, activators: &[u8], signals: &[u8]) -> Result<Outputs<'_>, Refusal> {
-        let (last, length) = (self.digits, 4 * self.rows + 1);
-        step(self.rule, &last[2 * self.rows..length], activators, signals, &mut self.digits[..length])?;
-        let (failed, rest) = self.digits.split_at(self.rows);
-        let (accept, state) = rest.split_at(self.rows);
-        Ok(Outputs { failed, accept, pending: &state[..self.rows] })
+        let last = self.digits;
+        let pendings = &last[2 * self.rows..3 * self.rows];
+        step(self.rule, pendings, activators, signals, &mut self.digits[..3 * self.rows])?;
+        let (failed, rest) = self.digits[..3 * self.rows].split_at(self.rows);
+        let (accept, pending) = rest.split_at(self.rows);
+        Ok(Outputs { failed, accept, pending })
     }
 }
 
@@ -102,9 +87,9 @@ impl<'a> Monitors<'a> {
 mod tests {
     use super::*;
 
-    const RULE: &[u8] = b"format=1\nsignals=3\nrows=22\nr1=sig 1\nr2=nsig 2\nr3=sig 3\nr4=and 1 2\nr5=or 2 3\nr6=next 4\n\
+    const RULE: &[u8] = b"format=1\nsignals=3\nrows=16\nr1=sig 1\nr2=nsig 2\nr3=sig 3\nr4=and 1 2\nr5=or 2 3\nr6=next 4\n\
         r7=always 5\nr8=ever 3\nr9=weak 4 8\nr10=until 5 6\nr11=release 1 7\nr12=srelease 9 10\nr13=not 12\nr14=or 11 13\n\
-        r15=and 12 14\nr16=always 15\nr17=before 16\nr18=wbefore 14\nr19=once 17\nr20=sofar 18\nr21=since 19 20\nr22=trigger 21 13\n";
+        r15=and 12 14\nr16=always 15\n";
 
     /// Digits that follow from a number; one byte is no digit where that is asked for.
     fn digits(number: &mut u64, count: usize, damaged: bool) -> Vec<u8> {
@@ -120,23 +105,21 @@ mod tests {
     }
 
     #[test]
-    fn monitors_are_steps_with_a_copied_state() {
+    fn monitors_are_steps_with_copied_pendings() {
         let rows = rows(RULE).unwrap();
-        let (mut answered, mut refused, mut kept, mut number) = (0, 0, 0, 1);
+        let (mut answered, mut refused, mut number) = (0, 0, 1);
         for _ in 0..50 {
             let mut monitors = Monitors::new(RULE).unwrap();
-            let mut output = [vec![b'0'; 4 * rows], vec![b'1']].concat();
-            let mut state = output[2 * rows..].to_vec();
+            let (mut pendings, mut output) = (vec![b'0'; rows], vec![b'0'; 3 * rows]);
             for call in 0..60 {
                 let activators = digits(&mut number, if call % 7 == 3 { rows - 1 } else { rows }, call % 11 == 5);
                 let signals = digits(&mut number, if call % 13 == 8 { 4 } else { 3 }, call % 17 == 9);
-                let expected = step(RULE, &state, &activators, &signals, &mut output);
+                let expected = step(RULE, &pendings, &activators, &signals, &mut output);
                 match monitors.step(&activators, &signals) {
                     Ok(Outputs { failed, accept, pending }) => {
-                        assert_eq!(expected, Ok(4 * rows + 1));
-                        assert_eq!([failed, accept, pending].concat(), output[..3 * rows]);
-                        state.copy_from_slice(&output[2 * rows..]);
-                        kept += state[rows..2 * rows].iter().filter(|bit| **bit == b'1').count();
+                        assert_eq!(expected, Ok(3 * rows));
+                        assert_eq!([failed, accept, pending].concat(), output);
+                        pendings.copy_from_slice(&output[2 * rows..]);
                         answered += 1;
                     }
                     Err(refusal) => {
@@ -144,10 +127,10 @@ mod tests {
                         refused += 1;
                     }
                 }
-                assert_eq!(monitors.digits[..4 * rows + 1], output);
+                assert_eq!(monitors.digits[..3 * rows], output);
             }
         }
-        assert!(answered > 1000 && refused > 500 && kept > 1000);
+        assert!(answered > 1000 && refused > 500);
     }
 
     #[test]

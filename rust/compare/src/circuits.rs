@@ -6,7 +6,7 @@ use crate::comparison::Implementation;
 use crate::damage::damaged;
 use crate::files::{random_rule, Size};
 use crate::random::Random;
-use crate::trials::{fresh_state, latches_of, with_outputs, written, Make};
+use crate::trials::{with_outputs, written, Make};
 use std::fmt;
 use std::ops::Range;
 
@@ -337,9 +337,9 @@ fn wrong_cycle(random: &mut Random, call: &Call) -> Call {
     call
 }
 
-/// The circuits of random rules as an implementation writes them, each simulated by it from latches at 0 with the latches that it leaves,
-/// beside its steps from a fresh start with the state that these leave: the outputs of each cycle must be failed, accept and pending of its
-/// step, and the next latches the state, with its mark negated. The number of cycles.
+/// The circuits of random rules as an implementation writes them, each simulated by it from latches at 0 with the latches that it leaves, beside
+/// its steps from a fresh start with the pendings that these leave: the outputs of each cycle must be the digits of its step, and the
+/// next latches the pendings. The number of cycles.
 pub fn hold_to_steps(implementation: Implementation, seed: u64, rules: u64) -> Result<u64, String> {
     const CYCLES: u64 = 6;
     for number in 0..rules {
@@ -349,16 +349,16 @@ pub fn hold_to_steps(implementation: Implementation, seed: u64, rules: u64) -> R
         let rule = random_rule(random, size);
         let rows = second::rows(&rule).expect("the rule is valid");
         let circuit = wholly(implementation, &Service::Circuit.of(&[&rule]))?;
-        let (mut state, mut latches) = (fresh_state(rows), vec![b'0'; 2 * rows + 1]);
+        let (mut pendings, mut latches) = (vec![b'0'; rows], vec![b'0'; rows]);
         for _ in 0..CYCLES {
             let ones = random.between(1, 7);
             let (activators, signals) = (random.digits(rows, ones), random.digits(size.signals, 4));
-            let step = Service::Step.of(&[&rule, &state, activators.as_bytes(), signals.as_bytes()]);
+            let step = Service::Step.of(&[&rule, &pendings, activators.as_bytes(), signals.as_bytes()]);
             let cycle = Service::Simulate.of(&[&circuit, (signals + &activators).as_bytes(), &latches]);
             let (stepped, simulated) = (wholly(implementation, &step)?, wholly(implementation, &cycle)?);
-            state = stepped[2 * rows..].to_vec();
+            pendings = stepped[2 * rows..].to_vec();
             latches = simulated[3 * rows..].to_vec();
-            if simulated[..3 * rows] != stepped[..3 * rows] || latches != latches_of(&state) {
+            if simulated[..3 * rows] != stepped || latches != pendings {
                 let [stepped, simulated] = [stepped, simulated].map(|digits| digits.escape_ascii().to_string());
                 return Err(format!("not the step: {cycle}gives {simulated}\n{step}gives {stepped}"));
             }

@@ -136,8 +136,7 @@ fn with_return(line: &[u8]) -> Vec<u8> {
 fn with_word_replaced(random: &mut Random, file: Vec<u8>) -> Vec<u8> {
     const WORDS: &[&str] = &[
         "format", "signals", "rows", "cycles", "loop", "none", "true", "false", "sig", "nsig", "not", "and", "or",
-        "next", "always", "ever", "weak", "until", "release", "srelease", "before", "wbefore", "once", "sofar",
-        "since", "trigger",
+        "next", "always", "ever", "weak", "until", "release", "srelease",
     ];
     let Ok(text) = String::from_utf8(file.clone()) else { return file };
     let (old, new) = (random.pick(WORDS), random.pick(WORDS));

@@ -10,7 +10,7 @@ use std::ops::Range;
 
 /// Every normal form and circuit of rules of up to three rows, every verdict and made sheet for them on takes of up to three cycles with one
 /// signal and of up to two cycles with two, and the lengths of all these; every check of every sheet for rules of up to two rows and takes
-/// of up to three cycles with one signal, of which five are covered at most; numbers; small runs; small circuits.
+/// of up to three cycles with one signal; numbers; small runs; small circuits.
 pub fn run(make: Make) -> Result<(), String> {
     for (signals, most_cycles) in [(1, 3), (2, 2)] {
         let takes = takes(signals, most_cycles);
@@ -20,11 +20,11 @@ pub fn run(make: Make) -> Result<(), String> {
                 make(&Call { negated, ..Service::NormalLength.of(&[&rule]) })?;
                 make(&Call { negated, ..Service::Normal.writing(&[&rule], vec![b'#'; 128]) })?;
             }
-            make(&Service::Circuit.writing(&[&rule], vec![b'#'; 512]))?;
+            make(&Service::Circuit.writing(&[&rule], vec![b'#'; 256]))?;
             for (_, take) in &takes {
                 make(&Service::Judge.of(&[&rule, take]))?;
                 make(&Service::SheetLength.of(&[&rule, take]))?;
-                make(&Service::MakeSheet.writing(&[&rule, take], vec![b'#'; 128]))?;
+                make(&Service::MakeSheet.writing(&[&rule, take], vec![b'#'; 64]))?;
             }
         }
     }
@@ -39,13 +39,9 @@ fn all_sheets(make: Make) -> Result<(), String> {
     for rows in rules(1, 2) {
         let rule = rule(1, &rows);
         let rows = second::rows(&rule).expect("the rule is valid");
-        for (own, take) in &takes {
-            let covered = second::sheet_cycles(&rule, take).expect("short takes are covered");
-            let all = if covered <= 5 { lists(&digits(covered), rows) } else { vec![] };
-            // where more than the take's own cycles are covered, a sheet of these is of another size
-            let of_own = vec!["1".repeat(*own); rows];
-            for lines in all.iter().chain([&of_own]) {
-                make(&Service::CheckSheet.of(&[&rule, take, &sheet(lines)]))?;
+        for (cycles, take) in &takes {
+            for lines in lists(&digits(*cycles), rows) {
+                make(&Service::CheckSheet.of(&[&rule, take, &sheet(&lines)]))?;
             }
         }
     }
@@ -134,7 +130,7 @@ mod tests {
 
     #[test]
     fn all_are_made() {
-        assert_eq!(rules(1, 3).len(), 4 + 4 * 20 + 4 * 20 * 52);
+        assert_eq!(rules(1, 3).len(), 4 + 4 * 14 + 4 * 14 * 36);
         assert_eq!(takes(1, 3).len(), 2 * 2 + 4 * 3 + 8 * 4);
         assert_eq!(digits(2), ["00", "01", "10", "11"]);
         assert_eq!(with_each_number(b"format=1\nr1=sig 1\n").count(), 3 * (1 + 3 + 9 + 27 + 81 + 243 + 729));

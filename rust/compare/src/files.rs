@@ -45,61 +45,29 @@ impl Size {
 
 /// A random rule. In some, every row behind the first ones has the row before as an operand, so that no row is left out; and some
 /// end in a row and its negation, so that every row below is reached with both signs. Both together, without another `not`,
-/// give the largest normal forms. Half of them have no row that looks back; of the others some have many, some a few.
+/// give the largest normal forms.
 pub fn random_rule(random: &mut Random, size: Size) -> Vec<u8> {
     let chained = random.once_in(2);
     let doubled = size.rows > 3 && random.once_in(4);
     let free = if doubled { size.rows - 2 } else { size.rows };
-    let back = *random.pick(&[&Some(2), &Some(12), &None, &None]);
-    let words = Words { chained, without_not: chained && doubled, back };
+    let unary = if chained && doubled { WITHOUT_NOT } else { UNARY };
     let mut rows: Vec<String> = Vec::new();
     for own in 1..=free {
         let leaf = own == 1 || if chained { own <= size.rows / 8 } else { random.once_in(4) };
-        rows.push(if leaf { random_leaf(random, size.signals) } else { random_operation(random, own, words) });
+        let row = if leaf { random_leaf(random, size.signals) } else { random_operation(random, own, chained, unary) };
+        rows.push(row);
     }
     if doubled {
         rows.push(format!("not {free}"));
-        rows.push(format!("{} {free} {}", words.two(random), free + 1));
+        rows.push(format!("{} {free} {}", random.pick(BINARY), free + 1));
     }
     rule(size.signals, &rows)
 }
 
-/// The words of rows with one operand, and of those with two.
-pub const UNARY: &[&str] = &["not", "next", "always", "ever", "before", "wbefore", "once", "sofar"];
-pub const BINARY: &[&str] = &["and", "or", "weak", "until", "release", "srelease", "since", "trigger"];
-
-/// How many of them do not look back, which are the first; the others do.
-pub const UNARY_AHEAD: usize = 4;
-pub const BINARY_AHEAD: usize = 6;
-
-/// How the rows of a rule with operands are drawn: whether each has the row before, whether `not` is left out, and once in how many a row
-/// looks back, if some do.
-#[derive(Clone, Copy)]
-struct Words {
-    chained: bool,
-    without_not: bool,
-    back: Option<usize>,
-}
-
-impl Words {
-    /// The word of a row with one operand.
-    fn one(self, random: &mut Random) -> &'static str {
-        let (ahead, back) = UNARY.split_at(UNARY_AHEAD);
-        let ahead = if self.without_not { &ahead[1..] } else { ahead };
-        self.among(random, ahead, back)
-    }
-
-    /// The word of a row with two.
-    fn two(self, random: &mut Random) -> &'static str {
-        let (ahead, back) = BINARY.split_at(BINARY_AHEAD);
-        self.among(random, ahead, back)
-    }
-
-    fn among(self, random: &mut Random, ahead: &[&'static str], back: &[&'static str]) -> &'static str {
-        let looks_back = self.back.is_some_and(|times| random.once_in(times));
-        random.pick(if looks_back { back } else { ahead })
-    }
-}
+/// The words of rows with one operand, all or without `not`, and of those with two.
+pub const UNARY: &[&str] = &["not", "next", "always", "ever"];
+const WITHOUT_NOT: &[&str] = &["next", "always", "ever"];
+pub const BINARY: &[&str] = &["and", "or", "weak", "until", "release", "srelease"];
 
 fn random_leaf(random: &mut Random, signals: usize) -> String {
     match random.below(12) {
@@ -111,13 +79,13 @@ fn random_leaf(random: &mut Random, signals: usize) -> String {
 }
 
 /// A row with operands: the row before half the time, and always where the rule is chained.
-fn random_operation(random: &mut Random, own: usize, words: Words) -> String {
-    let a = if words.chained || random.once_in(2) { own - 1 } else { random.between(1, own - 1) };
+fn random_operation(random: &mut Random, own: usize, chained: bool, unary: &[&str]) -> String {
+    let a = if chained || random.once_in(2) { own - 1 } else { random.between(1, own - 1) };
     let b = random.between(1, own - 1);
     match random.below(4) {
-        0 => format!("{} {a}", words.one(random)),
-        1 => format!("{} {b} {a}", words.two(random)),
-        _ => format!("{} {a} {b}", words.two(random)),
+        0 => format!("{} {a}", random.pick(unary)),
+        1 => format!("{} {b} {a}", random.pick(BINARY)),
+        _ => format!("{} {a} {b}", random.pick(BINARY)),
     }
 }
 

@@ -1,6 +1,6 @@
 //! Calls of every service, to hold implementations together on: the papers' cases, all small rules and takes, numbers padded and not, and
-//! random calls, valid and damaged; runs, call after call; circuits; and rules with many rows on one branch that look ahead, or back, on
-//! looped takes. What a call leaves is compared whole: the answer, the inputs and every byte of the output.
+//! random calls, valid and damaged; runs, call after call; circuits; and rules with many rows on one branch that look ahead, on looped
+//! takes. What a call leaves is compared whole: the answer, the inputs and every byte of the output.
 
 #![forbid(unsafe_code)]
 

@@ -1,5 +1,5 @@
 //! Holds the second implementation to the proved library: on the papers' cases, on all small rules and takes, on runs, on circuits, on
-//! random calls of every service, and on rules with many rows on one branch that look ahead, or back.
+//! random calls of every service, and on rules with many rows on one branch that look ahead.
 //!
 //!     compare [--seed N] [--runs N] [--programs FOLDER]
 //!

@@ -1,10 +1,8 @@
 //! Rules with many rows on one branch that look ahead, on looped takes. What such a row is at a cycle rests on what the row below it is all
-//! around the loop: truth that is worked out by going around the loop needs the more rounds the more of them there are. In a third of the
-//! rules rows that look back stand among them, over and under rows that look ahead, so that rounds of the loop are written out.
+//! around the loop: truth that is worked out by going around the loop needs the more rounds the more of them there are.
 
 use crate::call::{Call, Service};
-use crate::files;
-use crate::files::{random_sheet, rule, take, take_cycles, Size, BINARY, BINARY_AHEAD, UNARY_AHEAD};
+use crate::files::{random_sheet, rule, take, take_cycles, Size, BINARY};
 use crate::padding::perhaps_padded;
 use crate::random::Random;
 use crate::trials::{rows, with_digits_changed, written, Make};
@@ -12,10 +10,6 @@ use crate::trials::{rows, with_digits_changed, written, Make};
 /// The words of rows that look ahead: with one operand, and with two.
 const UNARY: &[&str] = &["next", "always", "ever"];
 const TEMPORAL: &[&str] = &["weak", "until", "release", "srelease"];
-
-/// Those of rows that look back.
-const UNARY_BACK: &[&str] = files::UNARY.split_at(UNARY_AHEAD).1;
-const BINARY_BACK: &[&str] = BINARY.split_at(BINARY_AHEAD).1;
 
 /// So many runs, the same calls from the same seed.
 pub fn run(seed: u64, runs: u64, make: Make) -> Result<(), String> {
@@ -36,8 +30,7 @@ fn trial(random: &mut Random, make: Make) -> Result<(), String> {
     let made = written(&call);
     let room = made.as_ref().map_or(0, Vec::len);
     make(&Call { output: random.bytes(room), ..call })?;
-    let cycles = second::sheet_cycles(&rule, &take).unwrap_or(size.cycles);
-    let sheet = made.unwrap_or_else(|| random_sheet(random, rows(&rule), cycles));
+    let sheet = made.unwrap_or_else(|| random_sheet(random, rows(&rule), size.cycles));
     for sheet in [with_digits_changed(random, &sheet), sheet] {
         make(&Service::CheckSheet.of(&[&rule, &take, &sheet]))?;
     }
@@ -59,23 +52,17 @@ fn random_size(random: &mut Random) -> Size {
 /// A chain, in which every row behind the leaves has the row before as an operand; or a tree, in which it has the next two that no row has
 /// yet. Some chains are of two words in turn, or of one; in the others one word is often.
 fn nested_rule(random: &mut Random, size: Size) -> Vec<u8> {
-    let (tree, back) = (random.once_in(6), random.once_in(3));
+    let tree = random.once_in(6);
     let leaves = if tree { size.rows.div_ceil(2) } else { random.between(1, size.rows.min(4) - 1) };
-    let unary = |random: &mut Random| {
-        let words = if back && random.once_in(2) { UNARY_BACK } else { UNARY };
-        random.pick(words)
-    };
-    let in_turn = random.once_in(4).then(|| [unary(random), unary(random)]);
-    let often = unary(random);
+    let in_turn = random.once_in(4).then(|| [random.pick(UNARY), random.pick(UNARY)]);
+    let often = random.pick(UNARY);
     let mut lines: Vec<String> = Vec::new();
     for own in 1..=size.rows {
-        let looks_back = back && random.once_in(3);
         lines.push(match own.checked_sub(leaves) {
             None | Some(0) => format!("{} {}", random.pick(&["sig", "nsig"]), random.between(1, size.signals)),
-            Some(above) if tree => tree_row(random, own, above, looks_back),
+            Some(above) if tree => tree_row(random, own, above),
             Some(_) => match in_turn {
                 Some(words) => format!("{} {}", words[own % 2], own - 1),
-                None if looks_back => back_row(random, own),
                 None => chain_row(random, own, often),
             },
         });
@@ -83,13 +70,9 @@ fn nested_rule(random: &mut Random, size: Size) -> Vec<u8> {
     rule(size.signals, &lines)
 }
 
-fn tree_row(random: &mut Random, own: usize, above: usize, looks_back: bool) -> String {
+fn tree_row(random: &mut Random, own: usize, above: usize) -> String {
     let (a, b) = (2 * above - 1, (2 * above).min(own - 1));
-    let words = match looks_back {
-        true => BINARY_BACK,
-        false if random.once_in(6) => &BINARY[..BINARY_AHEAD],
-        false => TEMPORAL,
-    };
+    let words = if random.once_in(6) { BINARY } else { TEMPORAL };
     format!("{} {a} {b}", random.pick(words))
 }
 
@@ -98,21 +81,11 @@ fn chain_row(random: &mut Random, own: usize, often: &str) -> String {
     let (a, b) = (own - 1, random.between(1, own - 1));
     match random.below(12) {
         0 => format!("not {a}"),
-        1 => format!("{} {a} {b}", random.pick(&BINARY[..BINARY_AHEAD])),
+        1 => format!("{} {a} {b}", random.pick(BINARY)),
         2..=4 => format!("{} {a} {b}", random.pick(TEMPORAL)),
         5 | 6 => format!("{} {b} {a}", random.pick(TEMPORAL)),
         7 | 8 => format!("{} {a}", random.pick(UNARY)),
         _ => format!("{often} {a}"),
-    }
-}
-
-/// The same of one that looks back.
-fn back_row(random: &mut Random, own: usize) -> String {
-    let (a, b) = (own - 1, random.between(1, own - 1));
-    match random.below(4) {
-        0 => format!("{} {a} {b}", random.pick(BINARY_BACK)),
-        1 => format!("{} {b} {a}", random.pick(BINARY_BACK)),
-        _ => format!("{} {a}", random.pick(UNARY_BACK)),
     }
 }
 

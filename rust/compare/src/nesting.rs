@@ -1,4 +1,4 @@
-//! What calls show of rules with many rows on one branch that look ahead, or back: that these are answered on looped takes.
+//! What calls show of rules with many rows on one branch that look ahead: that these are answered on looped takes.
 
 use crate::call::{Outcome, Service};
 use std::fmt;
@@ -10,15 +10,13 @@ pub enum Nested {
     Ahead(usize),
     /// At least so many rows on one branch are `next`, and the loop has one cycle.
     Next(usize),
-    /// At least so many rows on one branch look back.
-    Back(usize),
 }
 
 use Nested::*;
 
 impl Nested {
     /// Everything, in the order of the table of counts.
-    pub const ALL: [Nested; 7] = [Ahead(3), Ahead(10), Ahead(50), Next(3), Back(1), Back(3), Back(10)];
+    pub const ALL: [Nested; 4] = [Ahead(3), Ahead(10), Ahead(50), Next(3)];
 
     /// Whether a call of this service can show it.
     pub fn can_be_of(self, service: Service) -> bool {
@@ -37,11 +35,9 @@ pub fn nested(service: Service, outcome: &Outcome) -> Vec<Nested> {
     let [rule, take] = [0, 1].map(|number| String::from_utf8_lossy(&outcome.inputs[number]));
     let Some(cycles) = cycles_in_loop(&take) else { return vec![] };
     let (ahead, next) = (most_on_a_branch(&rule, looks_ahead), most_on_a_branch(&rule, |word| word == "next"));
-    let back = most_on_a_branch(&rule, looks_back);
     all.retain(|nested| match *nested {
         Ahead(rows) => ahead >= rows,
         Next(rows) => next >= rows && cycles == 1,
-        Back(rows) => back >= rows,
     });
     all
 }
@@ -68,10 +64,6 @@ fn looks_ahead(word: &str) -> bool {
     matches!(word, "next" | "always" | "ever" | "weak" | "until" | "release" | "srelease")
 }
 
-fn looks_back(word: &str) -> bool {
-    matches!(word, "before" | "wbefore" | "once" | "sofar" | "since" | "trigger")
-}
-
 fn value(line: &str) -> &str {
     line.split_once('=').expect("each line has a value").1
 }
@@ -82,7 +74,6 @@ impl fmt::Display for Nested {
         match self {
             Ahead(rows) => write!(f, "{rows} nested, loop"),
             Next(rows) => write!(f, "{rows} next, 1 cycle"),
-            Back(rows) => write!(f, "{rows} back, loop"),
         }
     }
 }
@@ -106,11 +97,6 @@ mod tests {
         assert_eq!(of(&chain, "none", &["0", "1"]), []);
         assert_eq!(of(&["true", "until 1 1", "always 2", "or 3 2", "release 1 4"], "0", &["0"]), [Ahead(3)]);
         assert_eq!(of(&["sig 1", "ever 1", "next 1", "next 1", "and 3 4", "until 2 5"], "0", &["0"]), []);
-        assert_eq!(
-            of(&["sig 1", "once 1", "not 2", "next 3", "since 1 4", "wbefore 5"], "0", &["0"]),
-            [Back(1), Back(3)]
-        );
-        assert_eq!(of(&["sig 1", "once 1", "sofar 1", "trigger 1 1", "or 2 3", "or 4 5"], "0", &["0"]), [Back(1)]);
         assert_eq!(
             of(&["sig 1", "next 1", "next 2", "next 3", "sig 1"], "0", &["0"]),
             [],

@@ -77,7 +77,7 @@ fn with_byte_changed(random: &mut Random, mut run: Vec<u8>, first: usize, end: u
 /// A byte of a row, or of the first place behind the rows, that becomes a small number.
 fn with_row_changed(random: &mut Random, mut run: Vec<u8>) -> Vec<u8> {
     let rows = usize::from(run[COUNTS + 1]).min(63);
-    run[ROWS + 3 * random.between(0, rows) + random.below(3)] = random.below(22) as u8;
+    run[ROWS + 3 * random.between(0, rows) + random.below(3)] = random.below(16) as u8;
     run
 }
 

@@ -50,7 +50,7 @@ const RULE: Refusals = &[(1, 1), (2, 1), (3, 1), (4, 1), (5, 1)];
 const TAKE: Refusals = &[(1, 2), (2, 2), (3, 2), (4, 2), (6, 2)];
 const SHEET: Refusals = &[(1, 3), (2, 3), (3, 3), (4, 3)];
 const CIRCUIT: Refusals = &[(1, 1), (2, 1)];
-const CALL: Refusals = &[(2, 0), (4, 0), (7, 0), (8, 0), (9, 0), (10, 0), (11, 0), (12, 0)];
+const CALL: Refusals = &[(2, 0), (4, 0), (7, 0), (8, 0), (9, 0), (10, 0), (11, 0)];
 
 /// The answers that a service can give: words, and refusals of files and calls.
 fn possible(service: Service) -> Vec<Kind> {
@@ -60,14 +60,14 @@ fn possible(service: Service) -> Vec<Kind> {
         Service::ReadSheet => (&["accepted"], &[SHEET], &[]),
         Service::Bound | Service::Rows | Service::NormalLength => (&["number"], &[RULE], &[]),
         Service::Normal => (&["written"], &[RULE], &[10]),
-        Service::Judge => (VERDICTS, &[RULE, TAKE], &[7, 12]),
-        Service::JudgeLooped => (&["holds", "breaks"], &[RULE, TAKE], &[7, 8, 12]),
+        Service::Judge => (VERDICTS, &[RULE, TAKE], &[7]),
+        Service::JudgeLooped => (&["holds", "breaks"], &[RULE, TAKE], &[7, 8]),
         Service::JudgeOpen => (&["kept", "broken", "open"], &[RULE, TAKE], &[7, 8]),
-        Service::JudgeText => (VERDICTS, &[RULE, TAKE], &[7, 10, 12]),
+        Service::JudgeText => (VERDICTS, &[RULE, TAKE], &[7, 10]),
         Service::Step => (&["written"], &[RULE], &[2, 7, 9, 10]),
-        Service::SheetLength => (&["number", "none"], &[RULE, TAKE], &[7, 12]),
-        Service::MakeSheet => (&["none", "written"], &[RULE, TAKE], &[7, 10, 12]),
-        Service::CheckSheet => (FINDINGS, &[RULE, TAKE, SHEET], &[7, 9, 12]),
+        Service::SheetLength => (&["number", "none"], &[RULE, TAKE], &[7]),
+        Service::MakeSheet => (&["none", "written"], &[RULE, TAKE], &[7, 10]),
+        Service::CheckSheet => (FINDINGS, &[RULE, TAKE, SHEET], &[7, 9]),
         Service::RunBegin => (&["written"], &[RULE], &[10]),
         Service::RunCycle => (&["accepted"], &[], &[2, 4, 7, 11]),
         Service::RunVerdict => (&["kept", "broken", "open", "no cycle yet"], &[], &[4]),
@@ -80,7 +80,7 @@ fn possible(service: Service) -> Vec<Kind> {
     said.chain(of_files).chain(of_calls).collect()
 }
 
-/// The kind of an answer. What `judge` prints counts as what it says, and a sheet's length of 0 as `none`; failures behind the sheet's last
+/// The kind of an answer. What `judge` prints counts as what it says, and a sheet's length of 0 as `none`; failures behind the take's last
 /// cycle, in a later round of the loop, count apart, and so do calls for the verdict on a run that has no cycle yet.
 fn kind(service: Service, outcome: &Outcome) -> Kind {
     let word = match &outcome.answer {
@@ -94,16 +94,16 @@ fn kind(service: Service, outcome: &Outcome) -> Kind {
             _ => "written",
         },
         Answer::Verdict(word) => word,
-        Answer::Finding("failed", _, cycle) if *cycle >= cycles(&outcome.inputs[2]) => "failed later",
+        Answer::Finding("failed", _, cycle) if *cycle >= cycles(&outcome.inputs[1]) => "failed later",
         Answer::Finding(word, _, _) => word,
         Answer::None => "none",
     };
     Kind::Said(word.to_string())
 }
 
-/// The cycles of a valid sheet: the digits of its last line, between the equals sign and the line feed.
-fn cycles(sheet: &[u8]) -> usize {
-    sheet.iter().rev().take_while(|byte| **byte != b'=').count() - 1
+/// The cycles of a valid take: its lines but for the first four.
+fn cycles(take: &[u8]) -> usize {
+    take.iter().filter(|byte| **byte == b'\n').count() - 4
 }
 
 /// Whether bytes are a run: a cycle with a byte that is no digit is then refused for that byte.
@@ -271,17 +271,6 @@ mod tests {
         assert_eq!(of(Service::SheetLength, 0), Kind::Said("none".to_string()));
         assert_eq!(of(Service::SheetLength, 55), Kind::Said("number".to_string()));
         assert_eq!(of(Service::NormalLength, 77), Kind::Said("number".to_string()));
-    }
-
-    #[test]
-    fn failures_behind_the_sheet_count_apart() {
-        let sheet = b"format=1\nrows=2\ncycles=00012\nz1=000000000000\nz2=111111111111\n".to_vec();
-        let of = |cycle| {
-            let inputs = vec![vec![], vec![], sheet.clone()];
-            kind(Service::CheckSheet, &Outcome { inputs, ..outcome(Answer::Finding("failed", 2, cycle)) })
-        };
-        assert_eq!(of(11), Kind::Said("failed".to_string()));
-        assert_eq!(of(12), Kind::Said("failed later".to_string()));
     }
 
     #[test]

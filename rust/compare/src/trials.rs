@@ -68,13 +68,12 @@ fn random_files(random: &mut Random, size: Size) -> Files {
     let signals = if random.once_in(16) { random.between(1, 32) } else { size.signals };
     let take = random_take(random, Size { signals, ..size });
     let take = perhaps_padded(random, take);
-    let (rows, cycles) = (rows(&rule), second::sheet_cycles(&rule, &take).unwrap_or(size.cycles));
+    let rows = rows(&rule);
     let sheet = match written(&Service::MakeSheet.of(&[&rule, &take])) {
         Some(made) if !random.once_in(4) => made,
         _ if random.once_in(64) => random_sheet(random, 128, 256),
-        _ if random.once_in(16) => random_sheet(random, rows + 1, cycles),
-        _ if random.once_in(16) => random_sheet(random, rows, size.cycles),
-        _ => random_sheet(random, rows, cycles),
+        _ if random.once_in(16) => random_sheet(random, rows + 1, size.cycles),
+        _ => random_sheet(random, rows, size.cycles),
     };
     let sheet = perhaps_padded(random, sheet);
     Files { rule, take, sheet }
@@ -127,38 +126,25 @@ pub fn with_outputs(random: &mut Random, call: Call, make: Make) -> Result<(), S
     Ok(())
 }
 
-/// A few cycles of the monitors from a fresh start, as steps and by their circuit, each with some wrong calls beside it; and one from any
-/// state.
+/// A few cycles of the monitors from a fresh start, as steps and by their circuit, each with some wrong calls beside it.
 fn steps(random: &mut Random, rule: &[u8], signals: usize, make: Make) -> Result<(), String> {
     let rows = rows(rule);
     let ones = random.between(0, 8);
     let circuit = written(&Service::Circuit.of(&[rule])).expect("the rule is valid");
-    let mut state = fresh_state(rows);
+    let mut pendings = "0".repeat(rows).into_bytes();
     for _ in 0..4 {
         let activators = random.digits(rows, ones).into_bytes();
         let signals = random.digits(signals, 4).into_bytes();
-        let call = Service::Step.of(&[rule, &state, &activators, &signals]);
+        let call = Service::Step.of(&[rule, &pendings, &activators, &signals]);
         with_outputs(random, call.clone(), make)?;
         make(&wrong_step(random, &call))?;
         let inputs = [signals, activators].concat();
-        with_outputs(random, Service::Simulate.of(&[&circuit, &inputs, &latches_of(&state)]), make)?;
+        with_outputs(random, Service::Simulate.of(&[&circuit, &inputs, &pendings]), make)?;
         let given = written(&call).expect("a step with the right lengths is answered");
-        state = given[2 * rows..].to_vec();
+        pendings = given[2 * rows..].to_vec();
     }
-    let [state, activators] = [2 * rows + 1, rows].map(|count| random.digits(count, 4).into_bytes());
-    with_outputs(random, Service::Step.of(&[rule, &state, &activators, &vec![b'1'; signals]]), make)
-}
-
-/// The state of the monitors of so many rows before the first cycle: nothing but the mark, which is the last.
-pub fn fresh_state(rows: usize) -> Vec<u8> {
-    [vec![b'0'; 2 * rows], vec![b'1']].concat()
-}
-
-/// The latches that stand for a state: the same, with the mark negated.
-pub fn latches_of(state: &[u8]) -> Vec<u8> {
-    let mut latches = state.to_vec();
-    latches.iter_mut().next_back().into_iter().for_each(|mark| *mark ^= 1);
-    latches
+    let any = random.digits(rows, 4).into_bytes();
+    with_outputs(random, Service::Step.of(&[rule, &any, &any, &vec![b'1'; signals]]), make)
 }
 
 /// The step with a byte that is no digit, or a digit too many or too few, in one or more of its inputs.
@@ -173,7 +159,7 @@ fn wrong_step(random: &mut Random, call: &Call) -> Call {
             _ => input.iter_mut().skip(at).take(1).for_each(|byte| *byte = random.byte()),
         }
     }
-    call.output = random.bytes(2 * call.inputs[1].len());
+    call.output = random.bytes(3 * call.inputs[1].len());
     call
 }
 

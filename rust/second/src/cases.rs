@@ -2,7 +2,7 @@
 
 use crate::{
     bound, check_sheet, judge, judge_looped, judge_open, judge_text, make_sheet, normal, normal_length, read_rule,
-    read_sheet, read_take, rows, sheet_length, step, Finding, Refusal, Verdict, WORDS,
+    read_sheet, read_take, rows, sheet_length, step, Finding, Refusal, Verdict,
 };
 
 /// Always, when signal 1, sooner or later signal 2.
@@ -195,31 +195,27 @@ fn order_of_refusals() {
     assert_eq!(sheet_length(good.as_bytes(), other.as_bytes()), refused(7, 0, 0));
 }
 
-/// The state has the pendings, the second bits, which stay off without rows that look back, and the mark of the first cycle.
 #[test]
 fn steps_of_rule_a() {
     let rule = rule(2, &A);
-    let mut output = [b'#'; 22];
-    assert_eq!(step(rule.as_bytes(), b"00000000001", b"00111", b"10", &mut output), Ok(21));
-    assert_eq!(&output, b"000001101100101000000#");
-    assert_eq!(step(rule.as_bytes(), b"00101000000", b"11111", b"01", &mut output), Ok(21));
-    assert_eq!(&output, b"000001111100001000000#");
+    let mut output = [b'#'; 16];
+    assert_eq!(step(rule.as_bytes(), b"00000", b"00111", b"10", &mut output), Ok(15));
+    assert_eq!(&output, b"000001101100101#");
+    assert_eq!(step(rule.as_bytes(), b"00101", b"11111", b"01", &mut output), Ok(15));
+    assert_eq!(&output, b"000001111100001#");
 }
 
 #[test]
 fn order_of_step_refusals() {
     let rule = rule(2, &A);
-    let call = |state: &[u8], activators: &[u8], signals: &[u8]| {
-        step(rule.as_bytes(), state, activators, signals, &mut [0; 20])
+    let call = |pendings: &[u8], activators: &[u8], signals: &[u8]| {
+        step(rule.as_bytes(), pendings, activators, signals, &mut [0; 14])
     };
     assert_eq!(call(b"", b"x", b"000"), refused(2, 0, 0));
-    assert_eq!(call(b"0000000000x", b"", b"000"), refused(2, 0, 0));
     assert_eq!(call(b"", b"1", b"000"), refused(7, 0, 0));
-    assert_eq!(call(b"00000000000", b"0000", b"00"), refused(9, 0, 0));
-    for digits in (0..30).filter(|digits| *digits != 11) {
-        assert_eq!(call(&vec![b'0'; digits], b"00000", b"00"), refused(9, 0, 0));
-    }
-    assert_eq!(call(b"00000000000", b"00000", b"00"), refused(10, 0, 0));
+    assert_eq!(call(b"00000", b"0000", b"00"), refused(9, 0, 0));
+    assert_eq!(call(b"0000", b"00000", b"00"), refused(9, 0, 0));
+    assert_eq!(call(b"00000", b"00000", b"00"), refused(10, 0, 0));
     assert_eq!(step(b"", b"x", b"", b"", &mut []), refused(2, 1, 1));
 }
 
@@ -234,28 +230,4 @@ fn text_of_judge() {
     let (rule, take) = (rule(2, &A), take("0", &["10", "01"]));
     expected("signals=2\nrows=5\ncycles=2\nloop=0\nverdict=holds\n", &rule, &take);
     expected("refused=2\nfile=2\nline=1\n", &rule, "");
-}
-
-/// Numbers that follow from one another.
-pub struct Numbers(pub u64);
-
-impl Numbers {
-    pub fn below(&mut self, end: usize) -> usize {
-        self.0 = self.0.wrapping_mul(6364136223846793005).wrapping_add(1442695040888963407);
-        ((self.0 >> 33) % end as u64) as usize
-    }
-
-    pub fn digits(&mut self, count: usize) -> Vec<u8> {
-        (0..count).map(|_| b'0' + self.below(2) as u8).collect()
-    }
-
-    pub fn rule(&mut self, signals: usize, rows: usize) -> String {
-        let row = |numbers: &mut Numbers, own: usize| {
-            let (word, count) = WORDS[if own == 1 { numbers.below(4) } else { numbers.below(WORDS.len()) }];
-            let most = if word.ends_with("sig") { signals } else { own - 1 };
-            (0..count).fold(word.to_string(), |row, _| format!("{row} {}", 1 + numbers.below(most)))
-        };
-        let rows: Vec<String> = (1..=rows).map(|own| row(self, own)).collect();
-        rule(signals, &rows.iter().map(String::as_str).collect::<Vec<_>>())
-    }
 }

@@ -1,6 +1,6 @@
 //! Verdicts and their text.
 
-use crate::normal::{nesting, normal_form};
+use crate::normal::normal_form;
 use crate::refusal::Refusal;
 use crate::rule::Rule;
 use crate::take::Take;
@@ -44,15 +44,8 @@ pub fn read_pair(rule: &[u8], take: &[u8]) -> Result<(Rule, Take), Refusal> {
     Ok((rule, take))
 }
 
-/// The take that truth and sheets of a normal form are over: with as many rounds of its loop written out before the loop as rows that look
-/// back are nested. Refused where it passes the cycles that a take may have; an open take, which has no loop, never is.
-pub fn covered(normal: &Rule, take: &Take) -> Result<Take, Refusal> {
-    let rounds = nesting(normal).try_into().expect("no rule has so many rows");
-    take.written_out(rounds).ok_or(Refusal::of_call(12))
-}
-
 /// The verdict on a take whose loop begins at `start`: the rule as written, by the meaning.
-fn looped(rule: &Rule, take: &Take, start: usize) -> Verdict {
+pub fn looped(rule: &Rule, take: &Take, start: usize) -> Verdict {
     match of_root(&on_endless(rule, take, start)) {
         true => Verdict::Holds,
         false => Verdict::Breaks,
@@ -60,7 +53,7 @@ fn looped(rule: &Rule, take: &Take, start: usize) -> Verdict {
 }
 
 /// The verdict on an open take.
-fn open(rule: &Rule, take: &Take) -> Verdict {
+pub fn open(rule: &Rule, take: &Take) -> Verdict {
     if of_root(&strong(&normal_form(rule, false), take)) {
         Verdict::Kept
     } else if of_root(&strong(&normal_form(rule, true), take)) {
@@ -71,21 +64,22 @@ fn open(rule: &Rule, take: &Take) -> Verdict {
 }
 
 /// The verdict on either kind of take.
-pub fn either(rule: &Rule, take: &Take) -> Result<Verdict, Refusal> {
-    let take = covered(&normal_form(rule, false), take)?;
-    Ok(match take.start {
-        Some(start) => looped(rule, &take, start),
-        None => open(rule, &take),
-    })
+pub fn either(rule: &Rule, take: &Take) -> Verdict {
+    match take.start {
+        Some(start) => looped(rule, take, start),
+        None => open(rule, take),
+    }
 }
 
-/// What the program `judge` prints. Cycles and loop are the take's own.
+/// What the program `judge` prints.
 pub fn text(rule: &[u8], take: &[u8]) -> String {
-    let judged = read_pair(rule, take).and_then(|(rule, take)| {
-        let rows = normal_form(&rule, false).rows.len();
-        let start = take.start.map_or("none".to_string(), |cycle| cycle.to_string());
-        let (signals, cycles, verdict) = (take.signals, take.cycles.len(), either(&rule, &take)?);
-        Ok(format!("signals={signals}\nrows={rows}\ncycles={cycles}\nloop={start}\nverdict={verdict}\n"))
-    });
-    judged.unwrap_or_else(|refusal| refusal.to_string())
+    match read_pair(rule, take) {
+        Err(refusal) => refusal.to_string(),
+        Ok((rule, take)) => {
+            let rows = normal_form(&rule, false).rows.len();
+            let start = take.start.map_or("none".to_string(), |cycle| cycle.to_string());
+            let (signals, cycles, verdict) = (take.signals, take.cycles.len(), either(&rule, &take));
+            format!("signals={signals}\nrows={rows}\ncycles={cycles}\nloop={start}\nverdict={verdict}\n")
+        }
+    }
 }

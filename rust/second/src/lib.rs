@@ -2,10 +2,9 @@
 //!
 //! It is written from the papers (the formats, the meaning, the monitors' table, the refusals) and shares no method with the
 //! library: truth is evaluated by the quantifiers of the meaning, at every cycle anew; the normal form by recursion from the
-//! root; a sheet is checked by running the monitors along the endless take, where rows that look back are read over all activators so
-//! far; files are split into lines and words; a run is a rule file and a take file, judged anew at each call; a circuit is simulated from
-//! its outputs down to its inputs, and the monitors are wired by counting variables along; a loop is written out by appending one round
-//! after another, as many as rows that look back are nested, counted from the root down.
+//! root; a sheet is checked by running the monitors along the endless take; files are split into lines and words; a run is a rule
+//! file and a take file, judged anew at each call; a circuit is simulated from its outputs down to its inputs, and the monitors are
+//! wired by counting variables along; a loop is written out by appending one round after another.
 //! It is meant to be plainly right and not to be fast.
 
 #![forbid(unsafe_code)]
@@ -29,8 +28,6 @@ mod wiring;
 mod cases;
 #[cfg(test)]
 mod padded_cases;
-#[cfg(test)]
-mod past_cases;
 
 pub use judge::Verdict;
 pub use refusal::Refusal;

@@ -3,7 +3,7 @@
 use crate::cases::{refused, rule, sheet, take, A, NORMAL_A};
 use crate::{
     check_sheet, judge, judge_looped, judge_text, make_sheet, normal, normal_length, read_rule, read_sheet, read_take,
-    run_begin, run_cycle, run_verdict, sheet_length, step, Finding, Refusal, Verdict, WORDS,
+    run_begin, run_cycle, run_verdict, sheet_length, step, Finding, Refusal, Verdict,
 };
 
 type Reader = fn(&[u8]) -> Result<(), Refusal>;
@@ -69,11 +69,10 @@ fn numbers_in_values_may_be_padded_up_to_five_digits() {
 
 #[test]
 fn the_rows_of_every_word_may_be_padded() {
-    let of_count = |wanted: usize| WORDS.iter().filter(move |(_, count)| *count == wanted).map(|(word, _)| word);
-    let ones: Vec<String> = of_count(1).map(|word| format!("{word} 00001")).collect();
-    let twos: Vec<String> = of_count(2).flat_map(|word| [format!("{word} 01 2"), format!("{word} 1 00002")]).collect();
-    assert_eq!((ones.len(), twos.len()), (10, 16));
-    for row in ones.iter().chain(&twos) {
+    let ones = ["sig", "nsig", "not", "next", "always", "ever"].map(|word| format!("{word} 00001"));
+    let twos = ["and", "or", "weak", "until", "release", "srelease"]
+        .map(|word| [format!("{word} 01 2"), format!("{word} 1 00002")]);
+    for row in ones.iter().chain(twos.iter().flatten()) {
         assert_eq!(read_rule(rule(2, &["true", "true", row]).as_bytes()), Ok(()), "{row}");
     }
 }
@@ -177,9 +176,9 @@ fn padded_files_are_answered_like_others() {
     let (rule, take) = (PADDED_RULE.as_bytes(), PADDED_TAKE.as_bytes());
     assert_eq!(check_sheet(rule, take, PADDED_SHEET.as_bytes()), Ok(Finding::Passes));
     assert_eq!((normal_length(rule, false), sheet_length(rule, take)), (Ok(NORMAL_A.len()), Ok(plain_sheet().len())));
-    let mut output = [0; 21];
-    assert_eq!(step(rule, b"00000000001", b"00111", b"10", &mut output), Ok(21));
-    assert_eq!(&output, b"000001101100101000000");
+    let mut output = [0; 15];
+    assert_eq!(step(rule, b"00000", b"00111", b"10", &mut output), Ok(15));
+    assert_eq!(&output, b"000001101100101");
 }
 
 /// A run holds a rule by its numbers, so that a padded one leaves no trace in it.

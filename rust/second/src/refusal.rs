@@ -2,7 +2,7 @@
 
 use std::fmt;
 
-/// A refusal: its number from 1 to 12, its file (1 rule or circuit, 2 take, 3 sheet, 0 none) and its line (from 1, 0 for none).
+/// A refusal: its number from 1 to 11, its file (1 rule or circuit, 2 take, 3 sheet, 0 none) and its line (from 1, 0 for none).
 #[derive(Clone, Copy, Debug, PartialEq, Eq)]
 pub struct Refusal {
     /// The number in the list of refusals.

@@ -11,7 +11,7 @@ const MOST_ROWS: usize = 64;
 pub const MOST_SIGNALS: usize = 32;
 
 /// The words of rows, each with its count of numbers, at the places that a run's bytes name them by.
-pub const WORDS: [(&str, usize); 20] = [
+pub const WORDS: [(&str, usize); 14] = [
     ("true", 0),
     ("false", 0),
     ("sig", 1),
@@ -26,12 +26,6 @@ pub const WORDS: [(&str, usize); 20] = [
     ("until", 2),
     ("release", 2),
     ("srelease", 2),
-    ("before", 1),
-    ("wbefore", 1),
-    ("once", 1),
-    ("sofar", 1),
-    ("since", 2),
-    ("trigger", 2),
 ];
 
 /// A row with the numbers of its signal or operands; both count from 1.
@@ -51,12 +45,6 @@ pub enum Row {
     Until(usize, usize),
     Release(usize, usize),
     Srelease(usize, usize),
-    Before(usize),
-    Wbefore(usize),
-    Once(usize),
-    Sofar(usize),
-    Since(usize, usize),
-    Trigger(usize, usize),
 }
 
 use Row::*;
@@ -87,12 +75,6 @@ impl Row {
             ["until", a, b] => Until(number(a)?, number(b)?),
             ["release", a, b] => Release(number(a)?, number(b)?),
             ["srelease", a, b] => Srelease(number(a)?, number(b)?),
-            ["before", a] => Before(number(a)?),
-            ["wbefore", a] => Wbefore(number(a)?),
-            ["once", a] => Once(number(a)?),
-            ["sofar", a] => Sofar(number(a)?),
-            ["since", a, b] => Since(number(a)?, number(b)?),
-            ["trigger", a, b] => Trigger(number(a)?, number(b)?),
             _ => return None,
         })
     }
@@ -102,15 +84,8 @@ impl Row {
         match self {
             True | False | Sig(_) | Nsig(_) => vec![],
             Not(a) | Next(a) | Always(a) | Ever(a) => vec![a],
-            Before(a) | Wbefore(a) | Once(a) | Sofar(a) => vec![a],
             And(a, b) | Or(a, b) | Weak(a, b) | Until(a, b) | Release(a, b) | Srelease(a, b) => vec![a, b],
-            Since(a, b) | Trigger(a, b) => vec![a, b],
         }
-    }
-
-    /// Whether the row looks back: a past operator.
-    pub fn looks_back(self) -> bool {
-        matches!(self, Before(_) | Wbefore(_) | Once(_) | Sofar(_) | Since(..) | Trigger(..))
     }
 
     /// Whether the signal lies within 1 to `signals` and every operand below this row, which is the one numbered `own`.
@@ -156,12 +131,6 @@ impl fmt::Display for Row {
             Until(a, b) => write!(f, "until {a} {b}"),
             Release(a, b) => write!(f, "release {a} {b}"),
             Srelease(a, b) => write!(f, "srelease {a} {b}"),
-            Before(a) => write!(f, "before {a}"),
-            Wbefore(a) => write!(f, "wbefore {a}"),
-            Once(a) => write!(f, "once {a}"),
-            Sofar(a) => write!(f, "sofar {a}"),
-            Since(a, b) => write!(f, "since {a} {b}"),
-            Trigger(a, b) => write!(f, "trigger {a} {b}"),
         }
     }
 }

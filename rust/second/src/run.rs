@@ -175,9 +175,7 @@ mod tests {
         assert_eq!(changed(0, 2), refused(4)); // a cycle behind the last
         assert_eq!(changed(16, 1), refused(4)); // a third signal
         assert_eq!(changed(1024, 3), Ok(Verdict::Open)); // nsig
-        assert_eq!(changed(1027, 17), Ok(Verdict::Open)); // sofar, in the place of not
-        assert_eq!(changed(1024, 14), refused(4)); // before, of the row itself
-        assert_eq!(changed(1024, 20), refused(4)); // no kind
+        assert_eq!(changed(1024, 14), refused(4)); // no kind
         assert_eq!(changed(1025, 3), refused(4)); // a signal above 2
         assert_eq!(changed(1026, 1), refused(4)); // a second number of `sig`
         assert_eq!(changed(1028, 2), refused(4)); // a row not below its own

@@ -1,9 +1,9 @@
 //! The services, from bytes to bytes. A refused one leaves its output alone.
 
 use crate::circuit::Circuit;
-use crate::judge::{covered, either, read_pair, text, Verdict};
+use crate::judge::{either, looped, open, read_pair, text, Verdict};
 use crate::lines::digit;
-use crate::monitor::{Cycle, State};
+use crate::monitor::Cycle;
 use crate::normal::normal_form;
 use crate::refusal::Refusal;
 use crate::rule::Rule;
@@ -55,16 +55,13 @@ pub fn normal(rule: &[u8], negated: bool, output: &mut [u8]) -> Result<usize, Re
 /// The verdict on either kind of take.
 pub fn judge(rule: &[u8], take: &[u8]) -> Result<Verdict, Refusal> {
     let (rule, take) = read_pair(rule, take)?;
-    either(&rule, &take)
+    Ok(either(&rule, &take))
 }
 
 /// The verdict on a looped take.
 pub fn judge_looped(rule: &[u8], take: &[u8]) -> Result<Verdict, Refusal> {
     let (rule, take) = read_pair(rule, take)?;
-    match take.start {
-        Some(_) => either(&rule, &take),
-        None => Err(Refusal::of_call(8)),
-    }
+    take.start.map(|start| looped(&rule, &take, start)).ok_or(Refusal::of_call(8))
 }
 
 /// The verdict on an open take.
@@ -72,7 +69,7 @@ pub fn judge_open(rule: &[u8], take: &[u8]) -> Result<Verdict, Refusal> {
     let (rule, take) = read_pair(rule, take)?;
     match take.start {
         Some(_) => Err(Refusal::of_call(8)),
-        None => either(&rule, &take),
+        None => Ok(open(&rule, &take)),
     }
 }
 
@@ -81,23 +78,29 @@ pub fn judge_text(rule: &[u8], take: &[u8], output: &mut [u8]) -> Result<usize, 
     write(text(rule, take).as_bytes(), output)
 }
 
-/// One cycle of a rule's monitors: from a state (pendings and second bits by row, and the mark of the first cycle), activators and signals
-/// writes failed, accept, pending and second bits by row, and the mark, off; the number of digits.
-pub fn step(rule: &[u8], state: &[u8], activators: &[u8], signals: &[u8], output: &mut [u8]) -> Result<usize, Refusal> {
+/// One cycle of a rule's monitors: writes failed, accept and pending by row; the number of digits.
+pub fn step(
+    rule: &[u8],
+    pendings: &[u8],
+    activators: &[u8],
+    signals: &[u8],
+    output: &mut [u8],
+) -> Result<usize, Refusal> {
     let normal = normal_form(&Rule::read(rule)?, false);
-    let (Some(state), Some(activators), Some(signals)) = (bits(state), bits(activators), bits(signals)) else {
+    let (Some(pendings), Some(activators), Some(signals)) = (bits(pendings), bits(activators), bits(signals)) else {
         return Err(Refusal::of_call(2));
     };
     if signals.len() != normal.signals {
         return Err(Refusal::of_call(7));
     }
-    let rows = normal.rows.len();
-    let state = State::read(&state, rows).filter(|_| activators.len() == rows).ok_or(Refusal::of_call(9))?;
-    let given = Cycle { activators: &activators, signals: &signals }.monitors(&normal, &state);
+    if [&pendings, &activators].iter().any(|digits| digits.len() != normal.rows.len()) {
+        return Err(Refusal::of_call(9));
+    }
+    let given = Cycle { activators: &activators, signals: &signals }.monitors(&normal, &pendings);
     let failed = given.iter().map(|row| row.failed);
     let accept = given.iter().map(|row| row.accept);
-    let State { pendings, seconds, first } = State::behind(&given);
-    write(&digits(failed.chain(accept).chain(pendings).chain(seconds).chain([first])), output)
+    let pending = given.iter().map(|row| row.pending);
+    write(&digits(failed.chain(accept).chain(pending)), output)
 }
 
 /// Writes the circuit of a rule's monitors; its length.
@@ -122,27 +125,14 @@ pub fn simulate(circuit: &[u8], inputs: &[u8], latches: &[u8], output: &mut [u8]
 
 /// The length of the sheet of a rule and a take; 0 if there is none.
 pub fn sheet_length(rule: &[u8], take: &[u8]) -> Result<usize, Refusal> {
-    let (normal, take) = met(rule, take)?;
-    Ok(made(&normal, &take).map_or(0, |sheet| sheet.len()))
+    let (rule, take) = read_pair(rule, take)?;
+    Ok(made(&rule, &take).map_or(0, |sheet| sheet.len()))
 }
 
 /// Writes the sheet of a rule and a take; its length, or none.
 pub fn make_sheet(rule: &[u8], take: &[u8], output: &mut [u8]) -> Result<Option<usize>, Refusal> {
-    let (normal, take) = met(rule, take)?;
-    made(&normal, &take).map(|sheet| write(sheet.as_bytes(), output)).transpose()
-}
-
-/// The normal form of the rule in one file, and the take in another as far as its sheets cover it.
-fn met(rule: &[u8], take: &[u8]) -> Result<(Rule, Take), Refusal> {
     let (rule, take) = read_pair(rule, take)?;
-    let normal = normal_form(&rule, false);
-    let take = covered(&normal, &take)?;
-    Ok((normal, take))
-}
-
-/// How many cycles the sheets of a rule and a take cover: the take's own, and the rounds that are written out for rows that look back.
-pub fn sheet_cycles(rule: &[u8], take: &[u8]) -> Result<usize, Refusal> {
-    Ok(met(rule, take)?.1.cycles.len())
+    made(&rule, &take).map(|sheet| write(sheet.as_bytes(), output)).transpose()
 }
 
 /// Writes the take file with so many rounds of the loop written out before the loop; its length, or none.
@@ -153,17 +143,16 @@ pub fn written_out(take: &[u8], rounds: u8, output: &mut [u8]) -> Result<Option<
 
 /// What a check of a sheet finds.
 pub fn check_sheet(rule: &[u8], take: &[u8], sheet: &[u8]) -> Result<Finding, Refusal> {
-    let normal = normal_form(&Rule::read(rule)?, false);
+    let rule = Rule::read(rule)?;
     let take = Take::read(take)?;
     let sheet = Sheet::read(sheet)?;
-    if normal.signals != take.signals {
+    if rule.signals != take.signals {
         return Err(Refusal::of_call(7));
     }
-    let take = covered(&normal, &take)?;
-    if !sheet.fits(&normal, &take) {
+    if !sheet.fits(&normal_form(&rule, false), &take) {
         return Err(Refusal::of_call(9));
     }
-    Ok(checked(&normal, &take, &sheet))
+    Ok(checked(&rule, &take, &sheet))
 }
 
 /// Begins a run: writes its bytes; their number.

@@ -1,11 +1,12 @@
 //! Activator sheets: reading, making, checking.
 
 use crate::lines::{digits, Lines};
-use crate::monitor::{Cycle, Given, State};
+use crate::monitor::{Cycle, Given};
+use crate::normal::normal_form;
 use crate::refusal::Refusal;
 use crate::rule::Rule;
 use crate::take::{Take, MOST_CYCLES};
-use crate::truth::{looking_back, of_root, on_endless, strong};
+use crate::truth::{of_root, on_endless, strong};
 use std::fmt;
 
 /// The rows that a sheet file may have.
@@ -69,7 +70,7 @@ impl Sheet {
         Ok(Sheet { rows, cycles })
     }
 
-    /// Whether the sheet has the rows of the normal form and the cycles of the take that it covers.
+    /// Whether the sheet has the rows of the normal form and the cycles of the take.
     pub fn fits(&self, normal: &Rule, take: &Take) -> bool {
         self.rows.len() == normal.rows.len() && self.cycles == take.cycles.len()
     }
@@ -80,12 +81,12 @@ impl Sheet {
     }
 }
 
-/// The sheet that is made of a normal form and the take that its sheets cover, as a file: where each row is true. None if the rule is not
-/// satisfied or not kept.
-pub fn made(normal: &Rule, take: &Take) -> Option<String> {
+/// The sheet that is made, as a file: where each row of the normal form is true. None if the rule is not satisfied or not kept.
+pub fn made(rule: &Rule, take: &Take) -> Option<String> {
+    let normal = normal_form(rule, false);
     let truth = match take.start {
-        Some(start) => on_endless(normal, take, start),
-        None => strong(normal, take),
+        Some(start) => on_endless(&normal, take, start),
+        None => strong(&normal, take),
     };
     of_root(&truth).then(|| {
         let digit = |active: &bool| if *active { '1' } else { '0' };
@@ -95,22 +96,21 @@ pub fn made(normal: &Rule, take: &Take) -> Option<String> {
     })
 }
 
-/// The check of a sheet that fits a normal form and the take that its sheets cover.
+/// The check of a sheet that fits.
 ///
 /// The monitors run through the stem and three rounds of the loop, and that is enough: the pending of a row depends on its own
 /// pending one cycle earlier and on what is repeated in each round. So a round takes the pending with which it is entered to
 /// that of the next round by one function f from a bit to a bit, the same in each round. Three applications of such a function
 /// are one (f f f = f), so from the second round on the rounds alternate between two at most: the second and the third. What ever
-/// fails, fails in the stem or in the first three rounds; what returns without end, returns in the second or the third. What a row that
-/// looks back means goes on in the same way, but for the first cycle of all: where that is the loop's, f begins with the second
-/// round, and as f f is f or changes nothing, a later round is still the second or the third. Such a row always accepts.
-pub fn checked(normal: &Rule, take: &Take, sheet: &Sheet) -> Finding {
+/// fails, fails in the stem or in the first three rounds; what returns without end, returns in the second or the third.
+pub fn checked(rule: &Rule, take: &Take, sheet: &Sheet) -> Finding {
+    let normal = normal_form(rule, false);
     if !sheet.rows[normal.rows.len() - 1][0] {
         return Finding::Root;
     }
     let n = take.cycles.len();
     let round = take.start.map_or(0, |start| n - start);
-    let given = run(normal, take, sheet, n + 2 * round);
+    let given = run(&normal, take, sheet, n + 2 * round);
     if let Some((cycle, row)) = first_failure(&given) {
         return Finding::Failed { row, cycle };
     }
@@ -122,36 +122,16 @@ pub fn checked(normal: &Rule, take: &Take, sheet: &Sheet) -> Finding {
     finding.unwrap_or(Finding::Passes)
 }
 
-/// The cycle of a take that the one numbered `i` of its endless repetition is.
-fn position(take: &Take, i: usize) -> usize {
-    let (n, start) = (take.cycles.len(), take.start.unwrap_or(0));
-    if i < n {
-        i
-    } else {
-        start + (i - n) % (n - start)
-    }
-}
-
-/// What the monitors give in each of the first `cycles` cycles of the take, repeated with its sheet. Rows that look back are read over the
-/// activators of all cycles up to their own, not from what is kept of them.
+/// What the monitors give in each of the first `cycles` cycles of the take, repeated with its sheet.
 fn run(normal: &Rule, take: &Take, sheet: &Sheet, cycles: usize) -> Vec<Vec<Given>> {
-    let active = |row: usize, i: usize| sheet.rows[row - 1][position(take, i)];
-    let mut all = by_kept_bits(normal, take, sheet, cycles);
-    for (i, given) in all.iter_mut().enumerate() {
-        let rows = (1..).zip(&normal.rows).zip(given).filter(|((_, row), _)| row.looks_back());
-        rows.for_each(|((own, row), given)| given.failed = active(own, i) && !looking_back(*row, i, active));
-    }
-    all
-}
-
-/// The same with what each cycle keeps for the next, of all rows.
-fn by_kept_bits(normal: &Rule, take: &Take, sheet: &Sheet, cycles: usize) -> Vec<Vec<Given>> {
-    let mut state = State::fresh(normal.rows.len());
+    let n = take.cycles.len();
+    let start = take.start.unwrap_or(0);
+    let mut pendings = vec![false; normal.rows.len()];
     let mut all = Vec::new();
     for i in 0..cycles {
-        let cycle = position(take, i);
-        let given = Cycle { activators: &sheet.cycle(cycle), signals: &take.cycles[cycle] }.monitors(normal, &state);
-        state = State::behind(&given);
+        let cycle = if i < n { i } else { start + (i - n) % (n - start) };
+        let given = Cycle { activators: &sheet.cycle(cycle), signals: &take.cycles[cycle] }.monitors(normal, &pendings);
+        pendings = given.iter().map(|row| row.pending).collect();
         all.push(given);
     }
     all
@@ -161,39 +141,4 @@ fn by_kept_bits(normal: &Rule, take: &Take, sheet: &Sheet, cycles: usize) -> Vec
 fn first_failure(given: &[Vec<Given>]) -> Option<(usize, usize)> {
     let lowest = |rows: &Vec<Given>| rows.iter().position(|row| row.failed).map(|row| row + 1);
     given.iter().enumerate().find_map(|(cycle, rows)| lowest(rows).map(|row| (cycle, row)))
-}
-
-#[cfg(test)]
-mod tests {
-    use super::*;
-    use crate::cases::Numbers;
-    use crate::judge::covered;
-    use crate::normal::normal_form;
-
-    /// Random sheets, looped and open: by what each cycle keeps, rows that look back fail where they do over all activators so far.
-    #[test]
-    fn kept_bits_say_what_all_cycles_do() {
-        let mut numbers = Numbers(7);
-        let (mut failed, mut passed) = (0, 0);
-        for run_of in 0..2000 {
-            let count = 1 + numbers.below(10);
-            let normal = normal_form(&Rule::read(numbers.rule(1, count).as_bytes()).unwrap(), false);
-            let count = 1 + numbers.below(5);
-            let start = Some(numbers.below(count)).filter(|_| run_of % 3 > 0);
-            let take = Take { signals: 1, cycles: vec![vec![true]; count], start };
-            let take = covered(&normal, &take).unwrap();
-            let n = take.cycles.len();
-            let digit = |digit: u8| digit == b'1';
-            let rows = normal.rows.iter().map(|_| numbers.digits(n).into_iter().map(digit).collect()).collect();
-            let sheet = Sheet { rows, cycles: n };
-            let cycles = if take.start.is_some() { 6 * n } else { n };
-            let [all, kept] = [run, by_kept_bits].map(|run| run(&normal, &take, &sheet, cycles));
-            assert_eq!(all, kept, "{normal}{take}");
-            let back = normal.rows.iter().enumerate().filter(|(_, row)| row.looks_back());
-            let fails = back.flat_map(|(row, _)| all.iter().map(move |cycle| cycle[row].failed));
-            let (fail, pass): (Vec<bool>, Vec<bool>) = fails.partition(|failed| *failed);
-            (failed, passed) = (failed + fail.len(), passed + pass.len());
-        }
-        assert!(failed > 1000 && passed > 1000, "{failed} {passed}");
-    }
 }

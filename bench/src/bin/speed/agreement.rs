@@ -7,7 +7,9 @@ use crate::services::{Call, Implementation, Service};
 fn outcome(by: Implementation, call: Call, given: &Inputs) -> (u64, Vec<u8>) {
     let mut out = vec![0; citronhelm::MOST_SHEET];
     let answer = by.call(call, given, &mut out);
-    let writes = call.service.writes() && answer >> 63 == 0;
+    let makes = matches!(call.service, Service::Normal | Service::Step | Service::MakeSheet | Service::RunBegin);
+    let of_circuits = matches!(call.service, Service::Circuit | Service::CircuitOfA | Service::Simulate | Service::SimulateOfA);
+    let writes = (makes || of_circuits) && answer >> 63 == 0;
     let length = given.run(call.service).map_or(0, <[u8]>::len);
     out.truncate(if writes { answer as usize } else { length });
     (answer, out)
@@ -58,23 +60,18 @@ fn with_damage(size: Size) -> Vec<Inputs> {
             all.push(other);
         }
     };
-    put(damaged(&given.ahead.rule, 3), |inputs| &mut inputs.ahead.rule);
-    put(damaged(&given.ahead.looped, 31), |inputs| &mut inputs.ahead.looped);
-    put(damaged(&given.ahead.open, 31), |inputs| &mut inputs.ahead.open);
-    put(damaged(&given.ahead.sheet, 101), |inputs| &mut inputs.ahead.sheet);
-    put(damaged(&given.back.rule, 3), |inputs| &mut inputs.back.rule);
-    put(damaged(&given.back.looped, 31), |inputs| &mut inputs.back.looped);
-    put(damaged(&given.back.sheet, 101), |inputs| &mut inputs.back.sheet);
-    put(damaged(&given.back.state, 5), |inputs| &mut inputs.back.state);
+    put(damaged(&given.rule, 3), |inputs| &mut inputs.rule);
+    put(damaged(&given.looped, 31), |inputs| &mut inputs.looped);
+    put(damaged(&given.open, 31), |inputs| &mut inputs.open);
+    put(damaged(&given.sheet, 101), |inputs| &mut inputs.sheet);
     put(damaged(&given.padded_rule, 11), |inputs| &mut inputs.padded_rule);
     put(damaged(&given.padded_take, 61), |inputs| &mut inputs.padded_take);
     put(damaged(&given.padded_sheet, 211), |inputs| &mut inputs.padded_sheet);
-    put(damaged(&given.ahead.state, 5), |inputs| &mut inputs.ahead.state);
-    put(damaged(&given.ahead.activators, 5), |inputs| &mut inputs.ahead.activators);
-    put(damaged(&given.ahead.signals, 5), |inputs| &mut inputs.ahead.signals);
+    put(damaged(&given.pendings, 5), |inputs| &mut inputs.pendings);
+    put(damaged(&given.activators, 5), |inputs| &mut inputs.activators);
+    put(damaged(&given.signals, 5), |inputs| &mut inputs.signals);
     put(damaged(&given.circuit, 61), |inputs| &mut inputs.circuit);
     put(damaged(&given.inputs, 5), |inputs| &mut inputs.inputs);
-    put(damaged(&given.latches, 5), |inputs| &mut inputs.latches);
     put(damaged(&given.circuit_of_a, 5), |inputs| &mut inputs.circuit_of_a);
     put(changed(&given.runs[1]), |inputs| &mut inputs.runs[1]);
     put(changed(&given.whole_run), |inputs| &mut inputs.whole_run);

@@ -4,19 +4,12 @@
 //! reached under both signs, so that 64 rows give the 125 of the largest normal form. The loop begins in the middle. Nothing ends
 //! early: the last rows ask for something again and again, which the loop brings and no open take settles, so that there both
 //! normal forms are gone through; and 70 of the 125 rows are true at one cycle of the looped take and false at another.
-//!
-//! The rule that looks back is made in the same way, six words of fifteen doing so; at full size three of them are nested, and 88 rows are
-//! true at one cycle and false at another. Its looped take has as many cycles less as are written out, so that its sheet has all cycles of
-//! the size.
 use crate::services::{Call, Service};
 use plain::{checking, circuits, making, monitors, rule, run};
 
 const SIGNALS: usize = 32;
 const WORDS: [&str; 9] = ["and", "next", "release", "or", "weak", "ever", "srelease", "always", "until"];
-const WORDS_BACK: [&str; 15] = [
-    "trigger", "wbefore", "until", "since", "before", "and", "next", "always", "sofar", "release", "ever", "srelease", "or", "weak", "once",
-];
-const UNARY: [&str; 7] = ["next", "ever", "always", "before", "wbefore", "once", "sofar"];
+const UNARY: [&str; 3] = ["next", "ever", "always"];
 /// The step that is measured: the monitors have run along the take up to it.
 const STEP: usize = 20;
 
@@ -31,91 +24,70 @@ pub struct Size {
     pub cycles: usize,
 }
 
-/// A rule with takes, the sheet of the looped one, and a step along it. `other` is the rule with 31 signals: it is read to its end, and
-/// then refused beside a take with 32.
+/// What the services are given. `other` is the rule with 31 signals: it is read to its end, and then refused beside a take with 32.
+/// `runs` are the states before the first cycle, the middle one and the last, `whole_run` that after all. The padded files are the rule,
+/// the looped take and the sheet. The circuit is that of the rule's monitors, its inputs and latches those of the step.
 #[derive(Clone)]
-pub struct Files {
+pub struct Inputs {
     pub rule: Vec<u8>,
     pub other: Vec<u8>,
     pub looped: Vec<u8>,
     pub open: Vec<u8>,
     pub sheet: Vec<u8>,
-    pub state: Vec<u8>,
-    pub activators: Vec<u8>,
-    pub signals: Vec<u8>,
-}
-
-/// What the services are given: the files of a rule that looks ahead alone, and of one that looks back too. `runs` are the states before
-/// the first cycle, the middle one and the last, `whole_run` that after all. The padded files are the rule, the looped take and the sheet.
-/// The circuit is that of the rule's monitors, its inputs and latches those of the step.
-#[derive(Clone)]
-pub struct Inputs {
-    pub ahead: Files,
-    pub back: Files,
     pub padded_rule: Vec<u8>,
     pub padded_take: Vec<u8>,
     pub padded_sheet: Vec<u8>,
+    pub pendings: Vec<u8>,
+    pub activators: Vec<u8>,
+    pub signals: Vec<u8>,
     pub runs: [Vec<u8>; 3],
     pub whole_run: Vec<u8>,
     pub circuit: Vec<u8>,
     pub inputs: Vec<u8>,
-    pub latches: Vec<u8>,
     pub circuit_of_a: Vec<u8>,
-}
-
-impl Files {
-    /// The looped take has so many cycles, the last of which are its loop; the open one all.
-    fn new(rows: &[String], cycles: &[String], count: usize, round: usize) -> Files {
-        let text = rule_text(rows);
-        let other = text.replace("signals=32\n", "signals=31\n").replace("sig 32\n", "sig 31\n").into_bytes();
-        let (rule, looped) = (text.into_bytes(), take_text(&cycles[..count], &(count - round).to_string()));
-        let sheet = making::make_files(&rule, &looped).unwrap().expect("the rule holds").into_bytes();
-        assert_eq!(checking::check_files(&rule, &looped, &sheet), Ok(checking::Finding::Passes));
-        let (state, activators) = stepped(&rule, cycles, &sheet);
-        Files { rule, other, looped, open: take_text(cycles, "none"), sheet, state, activators, signals: cycles[STEP].clone().into_bytes() }
-    }
-
-    /// With a loop that begins in the middle.
-    fn ahead(size: Size, cycles: &[String]) -> Files {
-        Files::new(&rule_rows(size.rows, &WORDS), cycles, size.cycles, size.cycles / 2)
-    }
-
-    /// With a loop of an eighth of the cycles, which is written out for each row that looks back on a branch.
-    fn back(size: Size, cycles: &[String]) -> Files {
-        let rows = rule_rows(size.rows, &WORDS_BACK);
-        let form = rule::normal(&rule::read_rule(rule_text(&rows).as_bytes()).unwrap().rows, false);
-        let round = size.cycles / 8;
-        Files::new(&rows, cycles, size.cycles - rule::nesting(&form) * round, round)
-    }
 }
 
 impl Inputs {
     pub fn new(size: Size) -> Inputs {
         let cycles = take_cycles(size.cycles);
-        let (ahead, back) = (Files::ahead(size, &cycles), Files::back(size, &cycles));
-        let runs = [0, size.cycles / 2, size.cycles - 1].map(|before| run_after(&ahead.rule, &cycles[..before]));
-        let whole_run = run_after(&ahead.rule, &cycles);
-        let [padded_rule, padded_take, padded_sheet] = [&ahead.rule, &ahead.looped, &ahead.sheet].map(|file| padded(file));
-        let (circuit, circuit_of_a) = (circuits::circuit_file(&ahead.rule).unwrap(), circuits::circuit_file(RULE_A).unwrap());
-        let inputs = [&ahead.signals[..], &ahead.activators].concat();
-        let latches = latches(&ahead.state);
-        Inputs { ahead, back, padded_rule, padded_take, padded_sheet, runs, whole_run, circuit, inputs, latches, circuit_of_a }
-    }
-
-    /// The files that a service is called with.
-    pub fn files(&self, service: Service) -> &Files {
-        if service.looks_back() {
-            &self.back
-        } else {
-            &self.ahead
+        let text = rule_text(&rule_rows(size.rows));
+        let other = text.replace("signals=32\n", "signals=31\n").replace("sig 32\n", "sig 31\n").into_bytes();
+        let (rule, looped) = (text.into_bytes(), take_text(&cycles, &(size.cycles / 2).to_string()));
+        let sheet = making::make_files(&rule, &looped).unwrap().expect("the rule holds").into_bytes();
+        let found = checking::check_files(&rule, &looped, &sheet);
+        assert_eq!(found, Ok(checking::Finding::Passes));
+        let (pendings, activators) = stepped(&rule, &cycles, &sheet);
+        let open = take_text(&cycles, "none");
+        let runs = [0, size.cycles / 2, size.cycles - 1].map(|before| run_after(&rule, &cycles[..before]));
+        let (whole_run, signals) = (run_after(&rule, &cycles), cycles[STEP].clone().into_bytes());
+        let [padded_rule, padded_take, padded_sheet] = [&rule, &looped, &sheet].map(|file| padded(file));
+        let (circuit, circuit_of_a) = (circuits::circuit_file(&rule).unwrap(), circuits::circuit_file(RULE_A).unwrap());
+        let inputs = [&signals[..], &activators].concat();
+        Inputs {
+            rule,
+            other,
+            looped,
+            open,
+            sheet,
+            padded_rule,
+            padded_take,
+            padded_sheet,
+            pendings,
+            activators,
+            signals,
+            runs,
+            whole_run,
+            circuit,
+            inputs,
+            circuit_of_a,
         }
     }
 
     /// The circuit that is simulated, its inputs, of which one is missing where it is only read, and its latches.
     pub fn cycle(&self, call: Call) -> [&[u8]; 3] {
         let [circuit, inputs, latches] = match call.service {
-            Service::SimulateOfA => [&self.circuit_of_a, CYCLE_OF_A, b"00000000000"],
-            _ => [&self.circuit[..], &self.inputs, &self.latches],
+            Service::SimulateOfA => [&self.circuit_of_a, CYCLE_OF_A, b"00000"],
+            _ => [&self.circuit[..], &self.inputs, &self.pendings],
         };
         [circuit, if call.only_read { &inputs[1..] } else { inputs }, latches]
     }
@@ -139,14 +111,14 @@ fn run_after(rule: &[u8], cycles: &[String]) -> Vec<u8> {
     state
 }
 
-fn rule_rows(rows: usize, words: &[&str]) -> Vec<String> {
+fn rule_rows(rows: usize) -> Vec<String> {
     let leaves = rows / 4;
     let leaf = |i: usize| format!("{} {}", ["nsig", "sig"][i % 2], 1 + i * (SIGNALS - 1) / (leaves - 1));
     let mut table: Vec<String> = (0..leaves).map(leaf).collect();
     let mut unread: Vec<usize> = (1..=leaves).collect();
     let operators = rows - leaves - 4;
     for j in 0..operators {
-        let word = words[j % words.len()];
+        let word = WORDS[j % WORDS.len()];
         let (a, mut b) = (unread.remove(0), 1 + (5 * j + 3) % leaves);
         // one row is left unread at the end
         if !UNARY.contains(&word) && (unread.len() * operators) as isize > (leaves as isize - 1) * (operators as isize - j as isize - 2) {
@@ -218,23 +190,15 @@ fn padded_line(line: &str) -> String {
     format!("{key}={}\n", words.join(" "))
 }
 
-/// The state before the measured step and the activators at it.
+/// The pendings before the measured step and the activators at it.
 fn stepped(rule: &[u8], cycles: &[String], sheet: &[u8]) -> (Vec<u8>, Vec<u8>) {
     let lines: Vec<&[u8]> = sheet.split(|&b| b == b'\n').filter(|line| line.starts_with(b"z")).collect();
     let column = |i: usize| -> Vec<u8> { lines.iter().map(|line| line[line.len() - cycles.len() + i]).collect() };
-    let n = lines.len();
-    let mut state = vec![b'0'; 2 * n];
-    state.push(b'1');
-    let mut out = vec![0; 4 * n + 1];
+    let mut pendings = vec![b'0'; lines.len()];
+    let mut out = vec![0; 3 * lines.len()];
     for (i, signals) in cycles[..STEP].iter().enumerate() {
-        monitors::step(rule, &state, &column(i), signals.as_bytes(), &mut out).unwrap();
-        state.copy_from_slice(&out[2 * n..]);
+        monitors::step(rule, &pendings, &column(i), signals.as_bytes(), &mut out).unwrap();
+        pendings.copy_from_slice(&out[2 * lines.len()..]);
     }
-    (state, column(STEP))
-}
-
-/// The latches that stand for a state: its last digit, the mark, is negated.
-fn latches(state: &[u8]) -> Vec<u8> {
-    let (mark, bits) = state.split_last().unwrap();
-    [bits, &[mark ^ 1]].concat()
+    (pendings, column(STEP))
 }

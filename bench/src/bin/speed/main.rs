@@ -5,8 +5,7 @@
 //!     speed               times, at full size and at smaller ones
 //!     speed count         instructions at full size, by callgrind
 //!     speed rounds        times of looped judging, by the rounds that it needs cycle by cycle
-//!     speed write FOLDER  writes the rules, their takes, sheets and states, the first padded, the runs and the circuit of full size into a
-//!                         folder
+//!     speed write FOLDER  writes the rule, the takes, the sheet, these padded, the runs and the circuit of full size into a folder
 mod agreement;
 mod counting;
 mod inputs;
@@ -15,7 +14,7 @@ mod services;
 mod tables;
 mod timing;
 
-use inputs::{Files, Inputs, Size};
+use inputs::{Inputs, Size};
 use services::{Call, Implementation, Service};
 use std::hint::black_box;
 use tables::Measured;
@@ -77,19 +76,12 @@ fn calls(words: &[String]) {
 
 fn write(folder: &str) -> std::io::Result<()> {
     let given = Inputs::new(FULL);
-    let of = |files: Files| {
-        let steps = [("state", files.state), ("activators", files.activators), ("signals", files.signals)];
-        [("rule.txt", files.rule), ("take.txt", files.looped), ("open.txt", files.open), ("sheet.txt", files.sheet)]
-            .into_iter()
-            .chain(steps)
-    };
+    let files = [("rule.txt", given.rule), ("take.txt", given.looped), ("open.txt", given.open), ("sheet.txt", given.sheet)];
     let padded = [("padded-rule.txt", given.padded_rule), ("padded-take.txt", given.padded_take), ("padded-sheet.txt", given.padded_sheet)];
     let [first, middle, last] = given.runs;
     let runs = [("run-0", first), ("run-128", middle), ("run-255", last), ("run-256", given.whole_run)];
-    let cycle = [("circuit.aag", given.circuit), ("inputs", given.inputs), ("latches", given.latches)];
-    let ahead = of(given.ahead).chain(padded).chain(runs).chain(cycle).map(|(name, bytes)| (name.to_string(), bytes));
-    let back = of(given.back).map(|(name, bytes)| (format!("back-{name}"), bytes));
-    for (name, bytes) in ahead.chain(back) {
+    let cycle = [("circuit.aag", given.circuit), ("inputs", given.inputs), ("latches", given.pendings)];
+    for (name, bytes) in files.into_iter().chain(padded).chain(runs).chain(cycle) {
         std::fs::write(std::path::Path::new(folder).join(name), bytes)?;
     }
     Ok(())

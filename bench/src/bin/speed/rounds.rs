@@ -1,6 +1,6 @@
 //! Judging of looped takes by the rounds that it needs when it goes cycle by cycle: the library beside plain Rust by the same schedule and
 //! by two passes a row.
-use crate::inputs::{rule_of, take_text, Files, Inputs, Random, RULE_A};
+use crate::inputs::{rule_of, take_text, Inputs, Random, RULE_A};
 use crate::tables::{micro, print_head, print_line};
 use crate::timing;
 use crate::FULL;
@@ -37,7 +37,6 @@ impl Pair {
     fn size(&self) -> (usize, usize) {
         let (rule, take) = take::read_pair(&self.rule, &self.take).unwrap();
         let rows = rule::normal(&rule.rows, false);
-        let take = take.covering(&rows).unwrap();
         (rows.len(), by_cycle::truths(&rows, &take).1)
     }
 }
@@ -108,11 +107,10 @@ fn pairs() -> (Vec<Pair>, BTreeMap<usize, usize>) {
         let rule = std::str::from_utf8(RULE_A).unwrap();
         Pair::new(&format!("rule A, loop {start}"), rule, random_take(&mut Random(SEED), 2, start))
     };
-    let Inputs { ahead, back, .. } = Inputs::new(FULL);
-    let of = |name: &str, Files { rule, other, looped, .. }: Files| Pair { name: name.to_string(), rule, other, take: looped };
-    let full = [of("full size", ahead), of("full size, looking back", back)];
+    let Inputs { rule, other, looped, .. } = Inputs::new(FULL);
+    let full = Pair { name: "full size".to_string(), rule, other, take: looped };
     let (random, counts) = random_pairs();
-    ([of_a(0), of_a(FULL.cycles / 2)].into_iter().chain(full).chain(random).chain(chains()).collect(), counts)
+    ([of_a(0), of_a(FULL.cycles / 2), full].into_iter().chain(random).chain(chains()).collect(), counts)
 }
 
 /// Whether a rule holds on a looped take, or the number of the refusal.

@@ -1,5 +1,5 @@
 //! The services, and each implementation called alike: the answer as one number, as the library gives it in C.
-use crate::inputs::{Files, Inputs, RULE_A};
+use crate::inputs::{Inputs, RULE_A};
 use plain::{by_cycle, checking, circuits, judging, making, monitors, normal, reading, rule, run, sheets, take};
 
 #[derive(Clone, Copy, Debug, PartialEq)]
@@ -28,18 +28,11 @@ pub enum Service {
     Simulate,
     CircuitOfA,
     SimulateOfA,
-    JudgeLoopedBack,
-    JudgeByCycleBack,
-    JudgeOpenBack,
-    StepBack,
-    MakeSheetBack,
-    CheckSheetBack,
-    CircuitBack,
 }
 use Service::*;
 
 impl Service {
-    pub const ALL: [Service; 31] = [
+    pub const ALL: [Service; 24] = [
         ReadRule,
         ReadTake,
         ReadSheet,
@@ -64,13 +57,6 @@ impl Service {
         Simulate,
         CircuitOfA,
         SimulateOfA,
-        JudgeLoopedBack,
-        JudgeByCycleBack,
-        JudgeOpenBack,
-        StepBack,
-        MakeSheetBack,
-        CheckSheetBack,
-        CircuitBack,
     ];
 
     pub fn name(self) -> &'static str {
@@ -99,25 +85,7 @@ impl Service {
             Simulate => "simulate a cycle",
             CircuitOfA => "circuit of rule A's monitors",
             SimulateOfA => "simulate a cycle of rule A's",
-            JudgeLoopedBack => "looking back: judge, looped",
-            JudgeByCycleBack => "looking back: judge, looped, same schedule",
-            JudgeOpenBack => "looking back: judge, open",
-            StepBack => "looking back: step",
-            MakeSheetBack => "looking back: make a sheet",
-            CheckSheetBack => "looking back: check a sheet",
-            CircuitBack => "looking back: circuit of the monitors",
         }
-    }
-
-    /// Whether the rule looks back.
-    pub fn looks_back(self) -> bool {
-        matches!(self, JudgeLoopedBack | JudgeByCycleBack | JudgeOpenBack | StepBack | MakeSheetBack | CheckSheetBack | CircuitBack)
-    }
-
-    /// Whether it writes what its answer is the length of.
-    pub fn writes(self) -> bool {
-        let of_circuits = matches!(self, Circuit | CircuitOfA | CircuitBack | Simulate | SimulateOfA);
-        of_circuits || matches!(self, Normal | Step | StepBack | MakeSheet | MakeSheetBack | RunBegin)
     }
 
     /// The service that says how much this one writes, of those that have one.
@@ -132,8 +100,8 @@ impl Service {
     /// Whether the cost may depend on the rule's rows, and on the take's cycles. A cycle's does not depend on those before it; that this is
     /// so is to be seen.
     pub fn grows_in(self) -> (bool, bool) {
-        let reads_rows = matches!(self, ReadRule | ReadPaddedRule | Normal | NormalLength | RunBegin | FirstCycle);
-        let only_rows = reads_rows || matches!(self, Step | StepBack | Circuit | CircuitBack | Simulate);
+        let only_rows =
+            matches!(self, ReadRule | ReadPaddedRule | Normal | NormalLength | Step | RunBegin | FirstCycle | Circuit | Simulate);
         let neither = matches!(self, CircuitOfA | SimulateOfA);
         (!neither && !matches!(self, ReadTake | ReadPaddedTake), !neither && !only_rows)
     }
@@ -142,12 +110,9 @@ impl Service {
     pub fn reading(self) -> Option<Call> {
         match self {
             ReadRule | ReadTake | ReadSheet | ReadPaddedRule | ReadPaddedTake | ReadPaddedSheet => None,
-            FirstCycle | MiddleCycle | LastCycle | RunVerdict | CircuitOfA | StepBack | CircuitBack => None,
+            FirstCycle | MiddleCycle | LastCycle | RunVerdict | CircuitOfA => None,
             Normal | NormalLength | Step | RunBegin | Circuit => Some(Call { service: ReadRule, only_read: false }),
             JudgeLooped | JudgeByCycle | JudgeOpen | MakeSheet | SheetLength | CheckSheet | Simulate | SimulateOfA => {
-                Some(Call { service: self, only_read: true })
-            }
-            JudgeLoopedBack | JudgeByCycleBack | JudgeOpenBack | MakeSheetBack | CheckSheetBack => {
                 Some(Call { service: self, only_read: true })
             }
         }
@@ -178,16 +143,15 @@ impl Implementation {
     pub fn offers(self, service: Service) -> bool {
         match self {
             Implementation::Proved | Implementation::Plain => true,
-            Implementation::Second => !matches!(service, JudgeByCycle | JudgeByCycleBack),
-            Implementation::BitParallel => matches!(service, JudgeLooped | JudgeOpen | JudgeLoopedBack | JudgeOpenBack),
+            Implementation::Second => service != JudgeByCycle,
+            Implementation::BitParallel => matches!(service, JudgeLooped | JudgeOpen),
         }
     }
 
     /// Makes the call. What is written stands at the front of `out`, and the answer is its length; or the run with a cycle more, which is
     /// copied there first, so that every call finds it as it was.
     pub fn call(self, call: Call, given: &Inputs, out: &mut Vec<u8>) -> u64 {
-        let files = given.files(call.service);
-        let rule = if call.only_read { &files.other } else { &files.rule };
+        let rule = if call.only_read { &given.other } else { &given.rule };
         if let Some(run) = given.run(call.service) {
             out[..run.len()].copy_from_slice(run);
         }
@@ -195,7 +159,7 @@ impl Implementation {
             Implementation::Proved => proved(call, rule, given, out),
             Implementation::Plain => plain(call, rule, given, out),
             Implementation::Second => second(call, rule, given, out),
-            Implementation::BitParallel => bit_parallel(call.service, rule, files),
+            Implementation::BitParallel => bit_parallel(call.service, rule, given),
         }
     }
 }
@@ -221,26 +185,25 @@ fn proved(call: Call, rule: &[u8], given: &Inputs, out: &mut [u8]) -> u64 {
         c::Finding::Passes => found(5, 0, 0),
     };
     let [circuit, inputs, latches] = given.cycle(call);
-    let Files { looped, open, sheet, state, activators, signals, .. } = given.files(call.service);
     let answer = match call.service {
         ReadRule => c::read_rule(rule).map(read),
-        ReadTake => c::read_take(looped).map(read),
-        ReadSheet => c::read_sheet(sheet).map(read),
+        ReadTake => c::read_take(&given.looped).map(read),
+        ReadSheet => c::read_sheet(&given.sheet).map(read),
         ReadPaddedRule => c::read_rule(&given.padded_rule).map(read),
         ReadPaddedTake => c::read_take(&given.padded_take).map(read),
         ReadPaddedSheet => c::read_sheet(&given.padded_sheet).map(read),
         Normal => c::normal(rule, false, out).map(length),
         NormalLength => c::normal_length(rule, false).map(length),
-        JudgeLooped | JudgeByCycle | JudgeLoopedBack | JudgeByCycleBack => c::judge_looped(rule, looped).map(verdict),
-        JudgeOpen | JudgeOpenBack => c::judge_open(rule, open).map(verdict),
-        Step | StepBack => c::step(rule, state, activators, signals, out).map(length),
-        MakeSheet | MakeSheetBack => c::make_sheet(rule, looped, out).map(|made| made.map_or(0, length)),
-        SheetLength => c::sheet_length(rule, looped).map(length),
-        CheckSheet | CheckSheetBack => c::check_sheet(rule, looped, sheet).map(finding),
+        JudgeLooped | JudgeByCycle => c::judge_looped(rule, &given.looped).map(verdict),
+        JudgeOpen => c::judge_open(rule, &given.open).map(verdict),
+        Step => c::step(rule, &given.pendings, &given.activators, &given.signals, out).map(length),
+        MakeSheet => c::make_sheet(rule, &given.looped, out).map(|made| made.map_or(0, length)),
+        SheetLength => c::sheet_length(rule, &given.looped).map(length),
+        CheckSheet => c::check_sheet(rule, &given.looped, &given.sheet).map(finding),
         RunBegin => c::run_begin(rule, out).map(length),
-        FirstCycle | MiddleCycle | LastCycle => c::run_cycle(&mut out[..given.whole_run.len()], signals).map(read),
+        FirstCycle | MiddleCycle | LastCycle => c::run_cycle(&mut out[..given.whole_run.len()], &given.signals).map(read),
         RunVerdict => c::run_verdict(&given.whole_run).map(verdict),
-        Circuit | CircuitBack => c::circuit(rule, out).map(length),
+        Circuit => c::circuit(rule, out).map(length),
         CircuitOfA => c::circuit(RULE_A, out).map(length),
         Simulate | SimulateOfA => c::simulate(circuit, inputs, latches, out).map(length),
     };
@@ -264,27 +227,26 @@ fn plain(call: Call, rule: &[u8], given: &Inputs, out: &mut Vec<u8>) -> u64 {
         out.len() as u64
     };
     let [circuit, inputs, latches] = given.cycle(call);
-    let Files { looped, open, sheet, state, activators, signals, .. } = given.files(call.service);
     let answer = match call.service {
         ReadRule => rule::read_rule(rule).map(used).map_err(of(1)),
-        ReadTake => take::read_take(looped).map(used).map_err(of(2)),
-        ReadSheet => sheets::read_sheet(sheet).map(used).map_err(of(3)),
+        ReadTake => take::read_take(&given.looped).map(used).map_err(of(2)),
+        ReadSheet => sheets::read_sheet(&given.sheet).map(used).map_err(of(3)),
         ReadPaddedRule => rule::read_rule(&given.padded_rule).map(used).map_err(of(1)),
         ReadPaddedTake => take::read_take(&given.padded_take).map(used).map_err(of(2)),
         ReadPaddedSheet => sheets::read_sheet(&given.padded_sheet).map(used).map_err(of(3)),
         Normal => normal::normal_file(rule, false).map(put),
         NormalLength => normal::normal_length(rule, false).map(length),
-        JudgeLooped | JudgeLoopedBack => judging::judge_files(rule, looped, true).map(verdict),
-        JudgeByCycle | JudgeByCycleBack => by_cycle::judge_files(rule, looped).map(verdict),
-        JudgeOpen | JudgeOpenBack => judging::judge_files(rule, open, false).map(verdict),
-        Step | StepBack => monitors::step(rule, state, activators, signals, out).map(length),
-        MakeSheet | MakeSheetBack => making::make_files(rule, looped).map(|made| made.map_or(0, |text| put(text.into_bytes()))),
-        SheetLength => making::sheet_length(rule, looped).map(length),
-        CheckSheet | CheckSheetBack => checking::check_files(rule, looped, sheet).map(finding),
+        JudgeLooped => judging::judge_files(rule, &given.looped, true).map(verdict),
+        JudgeByCycle => by_cycle::judge_files(rule, &given.looped).map(verdict),
+        JudgeOpen => judging::judge_files(rule, &given.open, false).map(verdict),
+        Step => monitors::step(rule, &given.pendings, &given.activators, &given.signals, out).map(length),
+        MakeSheet => making::make_files(rule, &given.looped).map(|made| made.map_or(0, |text| put(text.into_bytes()))),
+        SheetLength => making::sheet_length(rule, &given.looped).map(length),
+        CheckSheet => checking::check_files(rule, &given.looped, &given.sheet).map(finding),
         RunBegin => run::run_begin(rule, out).map(length),
-        FirstCycle | MiddleCycle | LastCycle => run::run_cycle(&mut out[..given.whole_run.len()], signals).map(|()| 0),
+        FirstCycle | MiddleCycle | LastCycle => run::run_cycle(&mut out[..given.whole_run.len()], &given.signals).map(|()| 0),
         RunVerdict => run::run_verdict(&given.whole_run).map(verdict),
-        Circuit | CircuitBack => circuits::circuit_file(rule).map(put),
+        Circuit => circuits::circuit_file(rule).map(put),
         CircuitOfA => circuits::circuit_file(RULE_A).map(put),
         Simulate | SimulateOfA => circuits::simulate(circuit, inputs, latches, out).map(length),
     };
@@ -308,26 +270,25 @@ fn second(call: Call, rule: &[u8], given: &Inputs, out: &mut [u8]) -> u64 {
         second::Finding::Passes => found(5, 0, 0),
     };
     let [circuit, inputs, latches] = given.cycle(call);
-    let Files { looped, open, sheet, state, activators, signals, .. } = given.files(call.service);
     let answer = match call.service {
         ReadRule => second::read_rule(rule).map(read),
-        ReadTake => second::read_take(looped).map(read),
-        ReadSheet => second::read_sheet(sheet).map(read),
+        ReadTake => second::read_take(&given.looped).map(read),
+        ReadSheet => second::read_sheet(&given.sheet).map(read),
         ReadPaddedRule => second::read_rule(&given.padded_rule).map(read),
         ReadPaddedTake => second::read_take(&given.padded_take).map(read),
         ReadPaddedSheet => second::read_sheet(&given.padded_sheet).map(read),
         Normal => second::normal(rule, false, out).map(length),
         NormalLength => second::normal_length(rule, false).map(length),
-        JudgeLooped | JudgeByCycle | JudgeLoopedBack | JudgeByCycleBack => second::judge_looped(rule, looped).map(by_number),
-        JudgeOpen | JudgeOpenBack => second::judge_open(rule, open).map(by_number),
-        Step | StepBack => second::step(rule, state, activators, signals, out).map(length),
-        MakeSheet | MakeSheetBack => second::make_sheet(rule, looped, out).map(|made| made.map_or(0, length)),
-        SheetLength => second::sheet_length(rule, looped).map(length),
-        CheckSheet | CheckSheetBack => second::check_sheet(rule, looped, sheet).map(finding),
+        JudgeLooped | JudgeByCycle => second::judge_looped(rule, &given.looped).map(by_number),
+        JudgeOpen => second::judge_open(rule, &given.open).map(by_number),
+        Step => second::step(rule, &given.pendings, &given.activators, &given.signals, out).map(length),
+        MakeSheet => second::make_sheet(rule, &given.looped, out).map(|made| made.map_or(0, length)),
+        SheetLength => second::sheet_length(rule, &given.looped).map(length),
+        CheckSheet => second::check_sheet(rule, &given.looped, &given.sheet).map(finding),
         RunBegin => second::run_begin(rule, out).map(length),
-        FirstCycle | MiddleCycle | LastCycle => second::run_cycle(&mut out[..given.whole_run.len()], signals).map(read),
+        FirstCycle | MiddleCycle | LastCycle => second::run_cycle(&mut out[..given.whole_run.len()], &given.signals).map(read),
         RunVerdict => second::run_verdict(&given.whole_run).map(by_number),
-        Circuit | CircuitBack => second::circuit(rule, out).map(length),
+        Circuit => second::circuit(rule, out).map(length),
         CircuitOfA => second::circuit(RULE_A, out).map(length),
         Simulate | SimulateOfA => second::simulate(circuit, inputs, latches, out).map(length),
     };
@@ -335,8 +296,8 @@ fn second(call: Call, rule: &[u8], given: &Inputs, out: &mut [u8]) -> u64 {
 }
 
 /// The bit-parallel judge takes both kinds of takes.
-fn bit_parallel(service: Service, rule: &[u8], files: &Files) -> u64 {
-    let take = if matches!(service, JudgeLooped | JudgeLoopedBack) { &files.looped } else { &files.open };
+fn bit_parallel(service: Service, rule: &[u8], given: &Inputs) -> u64 {
+    let take = if service == JudgeLooped { &given.looped } else { &given.open };
     bitparallel::judge(rule, take).map_or_else(turned_back, by_number)
 }
 

@@ -12,16 +12,10 @@ returns-3 : tie.Need-returns-3
 returns-3 c = rw (← c.before.before.pattern-of.ensures, c.enum-told3.given.1)
 
 returns-4 : tie.Need-returns-4
-returns-4 c = rw (← c.before.before.pattern-of.ensures, c.enum-told4.given.1)
+returns-4 c = rw (← c.before.before.before.before.pattern-of.ensures, c.before.before.pattern.given.1, c.if1.true)
 
 returns-5 : tie.Need-returns-5
-returns-5 c = rw (← c.before.before.before.before.pattern-of.ensures, c.before.before.pattern.given.1, c.if1.true)
-
-returns-6 : tie.Need-returns-6
-returns-6 c = rw (← c.before.before.before.before.pattern-of.ensures, c.before.before.pattern.given.1, c.if1.false)
-
-returns-7 : tie.Need-returns-7
-returns-7 c = rw (← c.before.before.pattern-of.ensures, c.enum-told5.given.1)
+returns-5 c = rw (← c.before.before.before.before.pattern-of.ensures, c.before.before.pattern.given.1, c.if1.false)
 
 pub row-handed-spec : {M : Type 1} → statement M
 row-handed-spec =
@@ -32,12 +26,8 @@ row-handed-spec =
     (λ c. search rules)
     (λ c. search rules)
     (λ c. search rules)
-    (λ c. search rules)
-    (λ c. search rules)
     returns
     returns-2
     returns-3
     returns-4
-    returns-5
-    returns-6
-    returns-7)
+    returns-5)

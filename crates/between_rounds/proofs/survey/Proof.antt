@@ -1,5 +1,6 @@
 use Prim.Native.Nat.{ℕ, suc, ◌+◌, ◌-◌, ◌<◌}
-use mathlib.Core.Path.{◌≡◌, ap, ◌∙◌}
+use mathlib.Core.Bool.{◌&&◌}
+use mathlib.Core.Path.{◌≡◌, ap, ap₂, ◌∙◌}
 use native.Mathlib.Omega.{arith}
 use borrow.Author.Rules.{rules}
 use Rattle.tables.specs.declared.row.NormalForm.{NormalForm}
@@ -9,19 +10,19 @@ use Rattle.meaning.specs.Pattern.{pattern_of}
 use Rattle.normal_form.specs.Form.{InNormalForm}
 use Rattle.normal_form.proofs.FormTables.{row_operands}
 use Rattle.cycle_rows.specs.Cells.{row_cell}
-use Rattle.between_rounds.specs.Between.{sure_in, same_in, surely}
+use Rattle.between_rounds.specs.Between.{same_in, stays}
 use Rattle.between_rounds.proofs.Rows.{SurveyedTo, survey_none, survey_more}
 use Rattle.between_rounds.proofs.survey.Statement.{statement}
 use Rattle.between_rounds.proofs.survey.Tie as tie
 
 abbrev invariant-loop : tie.invariant-loop
-invariant-loop behind cells before sure₀ form rows all₀ k₀ sure all k = (ok : InNormalForm form) → SurveyedTo form ok (row_cell behind) (row_cell cells) (sure_in before) k sure all
+invariant-loop behind cells sure₀ form rows all₀ k₀ sure all k = (ok : InNormalForm form) → SurveyedTo form ok (row_cell behind) (row_cell cells) k sure all
 
 abbrev decreases-loop : tie.decreases-loop
-decreases-loop behind cells before sure₀ form rows all₀ k₀ sure all k = rows - k
+decreases-loop behind cells sure₀ form rows all₀ k₀ sure all k = rows - k
 
 loop-holds : tie.Need-loop-init invariant-loop decreases-loop
-loop-holds c = λ ok. survey_none c.args.t1 ok (row_cell c.args.behind.now) (row_cell c.args.cells.now) (sure_in c.args.before.now) c.args.sure.now
+loop-holds c = λ ok. survey_none c.args.t1 ok (row_cell c.args.behind.now) (row_cell c.args.cells.now) c.args.sure.now
 
 mul-place : tie.Need-overflow-mul-place invariant-loop decreases-loop
 mul-place c = omega (arith, c.before.before.requires.most_rows)
@@ -29,25 +30,29 @@ mul-place c = omega (arith, c.before.before.requires.most_rows)
 element-copy-out-place : tie.Need-element-copy-out-place invariant-loop decreases-loop
 element-copy-out-place c = omega (arith, c.before.before.requires.most_rows)
 
-row-sure-requires : tie.Need-row-sure-requires invariant-loop decreases-loop
-row-sure-requires c κs =
-    let start = c.before.before.before.before in
-    let k : ℕ = c.before.before.before.loop.k in
+operands-sure-requires : tie.Need-operands-sure-requires invariant-loop decreases-loop
+operands-sure-requires c κs = row_operands c.before.before.before.before.args.t1 c.before.before.before.before.requires c.before.before.before.loop.k (search rules)
+
+row-stays-requires : tie.Need-row-stays-requires invariant-loop decreases-loop
+row-stays-requires c κs =
+    let start = c.before.before.before.before.before in
+    let k : ℕ = c.before.before.before.before.loop.k in
     let h : k < start.args.t1.rows = search rules in
     (row_operands start.args.t1 start.requires k h, omega arith, omega (arith, start.requires.most_rows))
 
 loop-again : tie.Need-loop-preserved invariant-loop decreases-loop
 loop-again c =
     λ ok.
-    let loop = c.before.before.before.before.before.before.loop in
-    let args = c.before.before.before.before.before.before.before.args in
+    let loop = c.before.before.before.before.before.before.before.loop in
+    let args = c.before.before.before.before.before.before.before.before.args in
     let g : NormalForm = args.t1 in
     let k : ℕ = loop.k in
     let e : k + 1 ≡ suc k = omega arith in
     let r : Row = table_of g.places (suc k) in
-    let on = c.before.before.row_sure.ensures ∙ ap (λ n. surely (sure_in args.before.now) (sure_in loop.sure) (same_in args.behind.now args.cells.now) n r (pattern_of r)) e in
+    let stay = c.before.before.row_stays.ensures ∙ ap (λ n. stays (same_in args.behind.now args.cells.now) n r (pattern_of r)) e in
     rw c.put.ensures
-    (survey_more g ok (row_cell args.behind.now) (row_cell args.cells.now) (sure_in args.before.now) k loop.sure c.before.put-arg.given.0.1 (search rules) _ on (loop.invariant ok))
+    (survey_more g ok (row_cell args.behind.now) (row_cell args.cells.now) k loop.sure c.before.put-arg.given.0.1 (search rules) _
+    (ap₂ ◌&&◌ c.before.before.before.operands-sure.ensures stay) (loop.invariant ok))
 
 returns : tie.Need-returns invariant-loop decreases-loop
 returns c =
@@ -65,7 +70,8 @@ survey-spec =
     mul-place
     element-copy-out-place
     (λ c. search rules)
-    row-sure-requires
+    operands-sure-requires
+    row-stays-requires
     (λ c κs. search rules)
     (λ c. search rules)
     loop-again

@@ -21,17 +21,11 @@ decreases-loop rows order truth all₀ i₀ all i = rows - i
 loop-holds : tie.Need-loop-init invariant-loop decreases-loop
 loop-holds c = λ g ok e s. filled_none g s.turn c.before.args.cells.now
 
-mul-own : tie.Need-overflow-mul-own invariant-loop decreases-loop
-mul-own c = omega (arith, c.before.before.before.requires.1.most_rows, c.before.before.before.requires.2)
-
 element-copy-out-own : tie.Need-element-copy-out-own invariant-loop decreases-loop
 element-copy-out-own c = omega (arith, c.before.before.before.requires.1.most_rows, c.before.before.before.requires.2)
 
 cast-own : tie.Need-overflow-cast-own invariant-loop decreases-loop
 cast-own c = let p = c.before.before.before.before.requires in let b = step_cells p.1 p.3 c.before.before.loop.i (omega (arith, p.2)) in omega (arith, b.0)
-
-mul-a : tie.Need-overflow-mul-a invariant-loop decreases-loop
-mul-a c = omega (arith, c.before.before.before.before.requires.1.most_rows, c.before.before.before.before.requires.2)
 
 element-copy-out-a : tie.Need-element-copy-out-a invariant-loop decreases-loop
 element-copy-out-a c = omega (arith, c.before.before.before.before.requires.1.most_rows, c.before.before.before.before.requires.2)
@@ -41,9 +35,6 @@ cast-a c = let p = c.before.before.before.before.before.requires in let b = step
 
 slice-read-a : tie.Need-slice-read-a invariant-loop decreases-loop
 slice-read-a c = let p = c.before.before.before.before.before.before.requires in let b = step_cells p.1 p.3 c.before.before.before.before.loop.i (omega (arith, p.2)) in let n = (c.before.before.before.before.loop.invariant p.0 p.1 p.2 p.3).size ∙ c.before.before.before.before.before.all.given.0.1 in omega (arith, b.1, n)
-
-mul-b : tie.Need-overflow-mul-b invariant-loop decreases-loop
-mul-b c = omega (arith, c.before.before.before.before.before.before.requires.1.most_rows, c.before.before.before.before.before.before.requires.2)
 
 element-copy-out-b : tie.Need-element-copy-out-b invariant-loop decreases-loop
 element-copy-out-b c = omega (arith, c.before.before.before.before.before.before.requires.1.most_rows, c.before.before.before.before.before.before.requires.2)
@@ -98,17 +89,14 @@ fill-cycle-spec =
     decreases-loop
     loop-holds
     (λ c. search rules)
-    mul-own
     element-copy-out-own
     cast-own
     (λ c. search rules)
-    mul-a
     element-copy-out-a
     cast-a
     slice-read-a
     (λ c. search rules)
     (λ c. search rules)
-    mul-b
     element-copy-out-b
     cast-b
     slice-read-b

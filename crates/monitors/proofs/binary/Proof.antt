@@ -20,16 +20,6 @@ returns-5 c = rw c.before.enum-told5.given.1 c.waits2.ensures
 returns-6 : tie.Need-returns-6
 returns-6 c = rw c.before.enum-told6.given.1 c.awaits2.ensures
 
-returns-7 : tie.Need-returns-7
-returns-7 c =
-    let said = c.keeps.ensures in
-    rw c.before.before.enum-told7.given.1 (rw c.before.recalls.ensures at said)
-
-returns-8 : tie.Need-returns-8
-returns-8 c =
-    let said = c.keeps2.ensures in
-    rw c.before.before.enum-told8.given.1 (rw c.before.recalls2.ensures at said)
-
 pub binary-spec : {M : Type 1} → statement M
 binary-spec =
     tie.close
@@ -46,17 +36,9 @@ binary-spec =
     (λ c κs. search rules)
     (λ c. search rules)
     (λ c κs. search rules)
-    (λ c. search rules)
-    (λ c κs. search rules)
-    (λ c κs. search rules)
-    (λ c. search rules)
-    (λ c κs. search rules)
-    (λ c κs. search rules)
     returns
     returns-2
     returns-3
     returns-4
     returns-5
-    returns-6
-    returns-7
-    returns-8)
+    returns-6)

@@ -1,4 +1,4 @@
-use Rattle.row_wiring.proofs.Wirings.{awaits_as, checks_as, looks_back_as, waits_as}
+use Rattle.row_wiring.proofs.Wirings.{awaits_as, checks_as, waits_as}
 use borrow.Author.Rules.{rules}
 use Rattle.row_wiring.proofs.binary.Statement.{statement}
 use Rattle.row_wiring.proofs.binary.Tie as tie
@@ -20,12 +20,6 @@ returns-5 c = rw c.before.before.enum-told5.given.1 (waits_as c.waits2.ensures c
 
 returns-6 : tie.Need-returns-6
 returns-6 c = rw c.before.before.enum-told6.given.1 (awaits_as c.awaits2.ensures c.before.idle4.ensures c.before.before.before.before.before.both.ensures c.before.before.before.before.both2.ensures)
-
-returns-7 : tie.Need-returns-7
-returns-7 c = rw c.before.before.before.before.before.enum-told7.given.1 (looks_back_as c.looks_back_lem.ensures c.before.before.before.recalled.ensures c.before.before.both10.ensures c.before.before.before.before.both9.ensures c.before.both11.ensures)
-
-returns-8 : tie.Need-returns-8
-returns-8 c = rw c.before.before.before.before.before.enum-told8.given.1 (looks_back_as c.looks-back2.ensures c.before.before.before.forgotten.ensures c.before.before.both13.ensures c.before.before.before.before.both12.ensures c.before.both14.ensures)
 
 pub binary-spec : {M : Type 1} → statement M
 binary-spec =
@@ -64,29 +58,9 @@ binary-spec =
     (λ c. search rules)
     (λ c κs. search rules)
     (λ c κs. search rules)
-    (λ c. search rules)
-    (λ c. search rules)
-    (λ c. search rules)
-    (λ c κs. search rules)
-    (λ c κs. search rules)
-    (λ c κs. search rules)
-    (λ c κs. search rules)
-    (λ c. search rules)
-    (λ c κs. search rules)
-    (λ c. search rules)
-    (λ c. search rules)
-    (λ c κs. search rules)
-    (λ c κs. search rules)
-    (λ c. search rules)
-    (λ c κs. search rules)
-    (λ c. search rules)
-    (λ c κs. search rules)
-    (λ c κs. search rules)
     returns
     returns-2
     returns-3
     returns-4
     returns-5
-    returns-6
-    returns-7
-    returns-8)
+    returns-6)

@@ -4,7 +4,7 @@ use Rattle.row_wiring.proofs.own_of.Statement.{statement}
 use Rattle.row_wiring.proofs.own_of.Tie as tie
 
 returns : tie.Need-returns
-returns c = let a = c.before.args in rw c.Later-of.ensures.0 (counted_is a.signals a.rows a.k, counted_small a.signals a.rows a.k (search rules) (search rules) (search rules))
+returns c = let a = c.args in (counted_is a.signals a.rows a.k, counted_small a.signals a.rows a.k (search rules) (search rules) (search rules))
 
 pub own-of-spec : {M : Type 1} → statement M
 own-of-spec =
@@ -18,14 +18,6 @@ own-of-spec =
     (λ c. search rules)
     (λ c. search rules)
     (λ c. search rules)
-    (λ c. search rules)
-    (λ c. search rules)
-    (λ c. search rules)
-    (λ c. search rules)
-    (λ c. search rules)
-    (λ c. search rules)
-    (λ c. search rules)
-    (λ c κs. search rules)
     (λ c. search rules)
     (λ c. search rules)
     (λ c. search rules)

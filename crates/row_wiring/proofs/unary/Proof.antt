@@ -1,4 +1,4 @@
-use Rattle.row_wiring.proofs.Wirings.{awaits_as, checks_as, looks_back_as, waits_as}
+use Rattle.row_wiring.proofs.Wirings.{awaits_as, checks_as, waits_as}
 use borrow.Author.Rules.{rules}
 use Rattle.row_wiring.proofs.unary.Statement.{statement}
 use Rattle.row_wiring.proofs.unary.Tie as tie
@@ -14,18 +14,6 @@ returns-3 c = rw c.before.before.before.enum-told3.given.1 (waits_as c.waits2.en
 
 returns-4 : tie.Need-returns-4
 returns-4 c = rw c.before.before.before.enum-told4.given.1 (awaits_as c.awaits.ensures c.before.before.idle2.ensures c.before.before.before.before.before.both.ensures c.before.spare6.ensures)
-
-returns-5 : tie.Need-returns-5
-returns-5 c = rw c.before.before.before.before.before.enum-told5.given.1 (looks_back_as c.looks_back_lem.ensures c.before.before.before.before.recalled.ensures c.before.before.before.both3.ensures c.before.before.spare7.ensures c.before.spare8.ensures)
-
-returns-6 : tie.Need-returns-6
-returns-6 c = rw c.before.before.before.before.before.enum-told6.given.1 (looks_back_as c.looks-back2.ensures c.before.before.before.before.forgotten.ensures c.before.before.before.both4.ensures c.before.before.spare9.ensures c.before.spare10.ensures)
-
-returns-7 : tie.Need-returns-7
-returns-7 c = rw c.before.before.before.before.before.enum-told7.given.1 (looks_back_as c.looks-back3.ensures c.before.before.before.recalled2.ensures c.before.before.before.before.both5.ensures c.before.before.both6.ensures c.before.spare11.ensures)
-
-returns-8 : tie.Need-returns-8
-returns-8 c = rw c.before.before.before.before.before.enum-told8.given.1 (looks_back_as c.looks-back4.ensures c.before.before.before.forgotten2.ensures c.before.before.before.before.both7.ensures c.before.before.both8.ensures c.before.spare12.ensures)
 
 pub unary-spec : {M : Type 1} → statement M
 unary-spec =
@@ -53,41 +41,7 @@ unary-spec =
     (λ c κs. search rules)
     (λ c κs. search rules)
     (λ c κs. search rules)
-    (λ c. search rules)
-    (λ c κs. search rules)
-    (λ c. search rules)
-    (λ c κs. search rules)
-    (λ c κs. search rules)
-    (λ c κs. search rules)
-    (λ c κs. search rules)
-    (λ c. search rules)
-    (λ c κs. search rules)
-    (λ c κs. search rules)
-    (λ c κs. search rules)
-    (λ c κs. search rules)
-    (λ c κs. search rules)
-    (λ c. search rules)
-    (λ c. search rules)
-    (λ c. search rules)
-    (λ c κs. search rules)
-    (λ c κs. search rules)
-    (λ c κs. search rules)
-    (λ c κs. search rules)
-    (λ c. search rules)
-    (λ c κs. search rules)
-    (λ c. search rules)
-    (λ c. search rules)
-    (λ c κs. search rules)
-    (λ c κs. search rules)
-    (λ c. search rules)
-    (λ c κs. search rules)
-    (λ c κs. search rules)
-    (λ c κs. search rules)
     returns
     returns-2
     returns-3
-    returns-4
-    returns-5
-    returns-6
-    returns-7
-    returns-8)
+    returns-4)

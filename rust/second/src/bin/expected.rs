@@ -41,8 +41,8 @@ fn answer(words: &[&str]) -> Result<String, Refusal> {
         ["negated_length", rule] => normal_length(&load(rule), true).map(length),
         ["normal", rule, size] => of_rule(rule, size, |rule, output| normal(rule, false, output)),
         ["negated", rule, size] => of_rule(rule, size, |rule, output| normal(rule, true, output)),
-        ["step", rule, state, activators, signals, size] => of_rule(rule, size, |rule, output| {
-            step(rule, state.as_bytes(), activators.as_bytes(), signals.as_bytes(), output)
+        ["step", rule, pendings, activators, signals, size] => of_rule(rule, size, |rule, output| {
+            step(rule, pendings.as_bytes(), activators.as_bytes(), signals.as_bytes(), output)
         }),
         ["circuit", rule, size] => of_rule(rule, size, circuit),
         ["simulate", circuit, inputs, latches, size] => {

@@ -14,12 +14,6 @@ returns-3 c = rw (← c.before.before.pattern-of.ensures, c.enum-told3.given.1)
 returns-4 : tie.Need-returns-4
 returns-4 c = rw (← c.before.before.pattern-of.ensures, c.enum-told4.given.1)
 
-returns-5 : tie.Need-returns-5
-returns-5 c = rw (← c.before.before.pattern-of.ensures, c.enum-told5.given.1)
-
-returns-6 : tie.Need-returns-6
-returns-6 c = rw (← c.before.before.pattern-of.ensures, c.enum-told6.given.1)
-
 pub is-next-spec : {M : Type 1} → statement M
 is-next-spec =
     tie.close
@@ -29,11 +23,7 @@ is-next-spec =
     (λ c. search rules)
     (λ c. search rules)
     (λ c. search rules)
-    (λ c. search rules)
-    (λ c. search rules)
     returns
     returns-2
     returns-3
-    returns-4
-    returns-5
-    returns-6)
+    returns-4)

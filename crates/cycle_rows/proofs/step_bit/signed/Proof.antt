@@ -12,7 +12,7 @@ use Rattle.cycle_rows.proofs.step_bit.signed.Tie as tie
 returns-2 : tie.Need-returns-2
 returns-2 c =
     let args = c.before.args in
-    let others : List ℕ = 1 ∷ 2 ∷ 3 ∷ 4 ∷ 5 ∷ 6 ∷ 7 ∷ [] in
+    let others : List ℕ = 1 ∷ 2 ∷ 3 ∷ [] in
     plain_sign args.kind args.on (λ e. miss others 0 tt (subst (OneOf others) (ap (tag_of the_type) e) c.match.keys2))
 
 pub signed-spec : {M : Type 1} → statement M

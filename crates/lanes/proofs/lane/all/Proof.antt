@@ -1,5 +1,9 @@
-use Rattle.std.proofs.Common.{suc, true, eqb, refl, ◌∙◌, rules}
+use mathlib.Core.Bool.{true}
+use mathlib.Core.Path.{refl, ◌∙◌}
+use Prim.Native.Nat.{suc}
+use lib.Dec.{eqb}
 use Rattle.lanes.proofs.LaneWords.{lane_every, lane_up_to}
+use borrow.Author.Rules.{rules}
 use Rattle.lanes.proofs.lane.all.Statement.{statement}
 use Rattle.lanes.proofs.lane.all.Tie as tie
 

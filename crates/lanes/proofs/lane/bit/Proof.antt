@@ -1,5 +1,6 @@
-use Rattle.std.proofs.Common.{refl, rules}
+use mathlib.Core.Path.{refl}
 use Rattle.tables.specs.Bit.{bit_at}
+use borrow.Author.Rules.{rules}
 use Rattle.lanes.proofs.lane.bit.Statement.{statement}
 use Rattle.lanes.proofs.lane.bit.Tie as tie
 

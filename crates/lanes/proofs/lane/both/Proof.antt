@@ -1,5 +1,5 @@
 use Rattle.lanes.proofs.Masks.{lane_masked}
-use Rattle.std.proofs.Common.{rules}
+use borrow.Author.Rules.{rules}
 use Rattle.lanes.proofs.lane.both.Statement.{statement}
 use Rattle.lanes.proofs.lane.both.Tie as tie
 

@@ -1,5 +1,5 @@
 use Rattle.lanes.proofs.LaneWords.{lane_carry}
-use Rattle.std.proofs.Common.{rules}
+use borrow.Author.Rules.{rules}
 use Rattle.lanes.proofs.lane.carry.Statement.{statement}
 use Rattle.lanes.proofs.lane.carry.Tie as tie
 

@@ -1,7 +1,8 @@
-use Rattle.std.proofs.Common.{◌||◌, rules}
+use mathlib.Core.Bool.{◌||◌}
 use lib.Bits.{bit_or}
 use Rattle.lanes.proofs.Words.{word_or}
 use Rattle.lanes.proofs.LaneWords.{lane_pointwise}
+use borrow.Author.Rules.{rules}
 use Rattle.lanes.proofs.lane.either.Statement.{statement}
 use Rattle.lanes.proofs.lane.either.Tie as tie
 

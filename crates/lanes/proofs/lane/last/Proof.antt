@@ -1,7 +1,7 @@
-use Rattle.std.proofs.Common.{ap, ◌∙◌, rules}
-use mathlib.Core.Path.{fun_ext}
+use mathlib.Core.Path.{ap, ◌∙◌, fun_ext}
 use Rattle.tables.specs.Bit.{lane_of}
 use Rattle.lanes.proofs.LaneWords.{last_cycle}
+use borrow.Author.Rules.{rules}
 use Rattle.lanes.proofs.lane.last.Statement.{statement}
 use Rattle.lanes.proofs.lane.last.Tie as tie
 

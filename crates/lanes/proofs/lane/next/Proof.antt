@@ -1,5 +1,5 @@
 use Rattle.lanes.proofs.LaneWords.{lane_next}
-use Rattle.std.proofs.Common.{rules}
+use borrow.Author.Rules.{rules}
 use Rattle.lanes.proofs.lane.next.Statement.{statement}
 use Rattle.lanes.proofs.lane.next.Tie as tie
 

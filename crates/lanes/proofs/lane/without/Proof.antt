@@ -1,7 +1,9 @@
-use Rattle.std.proofs.Common.{◌-◌, not, ◌&&◌, rules}
+use Prim.Native.Nat.{◌-◌}
+use mathlib.Core.Bool.{not, ◌&&◌}
 use lib.Bits.{bit_and, and_le_l}
 use Rattle.lanes.proofs.Words.{word_without}
 use Rattle.lanes.proofs.LaneWords.{lane_pointwise}
+use borrow.Author.Rules.{rules}
 use Rattle.lanes.proofs.lane.without.Statement.{statement}
 use Rattle.lanes.proofs.lane.without.Tie as tie
 

@@ -1,5 +1,5 @@
 use Rattle.lanes.proofs.Stretches.{of_one, of_twice}
-use Rattle.std.proofs.Common.{rules}
+use borrow.Author.Rules.{rules}
 use Rattle.lanes.proofs.word.carry_back.Statement.{statement}
 use Rattle.lanes.proofs.word.carry_back.Tie as tie
 

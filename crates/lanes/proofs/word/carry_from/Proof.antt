@@ -1,5 +1,5 @@
 use Rattle.lanes.proofs.Carries.{carried_bit_on, carried_bit_off}
-use Rattle.std.proofs.Common.{rules}
+use borrow.Author.Rules.{rules}
 use Rattle.lanes.proofs.word.carry_from.Statement.{statement}
 use Rattle.lanes.proofs.word.carry_from.Tie as tie
 

@@ -1,5 +1,5 @@
 use Rattle.lanes.proofs.Words.{next_on, next_off}
-use Rattle.std.proofs.Common.{rules}
+use borrow.Author.Rules.{rules}
 use Rattle.lanes.proofs.word.next_from.Statement.{statement}
 use Rattle.lanes.proofs.word.next_from.Tie as tie
 

@@ -1,8 +1,8 @@
 use mathlib.Core.Path.{◌∙◌}
-use mathlib.Core.Bool.{true, false, ◌&&◌}
+use mathlib.Core.Bool.{◌&&◌}
 use Rattle.lanes.proofs.Shown.{cut}
 use Rattle.row_lanes.proofs.RowLanes.{either_shown, both_shown}
-use Rattle.row_lanes.proofs.Passes.{carry_shown, accumulate_shown}
+use Rattle.row_lanes.proofs.Passes.{carry_shown}
 use borrow.Author.Rules.{rules}
 use Rattle.row_lanes.proofs.row.binary.Statement.{statement}
 use Rattle.row_lanes.proofs.row.binary.Tie as tie
@@ -25,12 +25,6 @@ returns-5 c = λ n p q most s t. rw c.before.before.enum-told5.given.1 (carry_sh
 returns-6 : tie.Need-returns-6
 returns-6 c = λ n p q most s t. rw c.before.before.enum-told6.given.1 (carry_shown n most q (λ i. p i && q i) c.carry4.ensures t (c.before.both3.ensures (cut n q) t ∙ both_shown n p q _ s))
 
-returns-7 : tie.Need-returns-7
-returns-7 c = λ n p q most s t. rw c.before.enum-told7.given.1 (accumulate_shown n most p q false c.accumulate.ensures s t)
-
-returns-8 : tie.Need-returns-8
-returns-8 c = λ n p q most s t. rw c.before.before.enum-told8.given.1 (accumulate_shown n most q (λ i. p i && q i) true c.accumulate2.ensures t (c.before.both4.ensures (cut n q) t ∙ both_shown n p q _ s))
-
 pub binary-spec : {M : Type 1} → statement M
 binary-spec =
     tie.close
@@ -49,16 +43,9 @@ binary-spec =
     (λ c. search rules)
     (λ c κs. search rules)
     (λ c κs. search rules)
-    (λ c. search rules)
-    (λ c κs. search rules)
-    (λ c. search rules)
-    (λ c κs. search rules)
-    (λ c κs. search rules)
     returns
     returns-2
     returns-3
     returns-4
     returns-5
-    returns-6
-    returns-7
-    returns-8)
+    returns-6)

@@ -2,8 +2,8 @@ use mathlib.Core.Path.{◌∙◌}
 use mathlib.Core.Bool.{true, false}
 use lib.Dec.{ltb}
 use Rattle.lanes.proofs.Shown.{cut}
-use Rattle.row_lanes.proofs.RowLanes.{all_shown, none_shown, signal_shown, not_shown}
-use Rattle.row_lanes.proofs.Passes.{carry_shown, next_shown, previous_shown, accumulate_shown}
+use Rattle.row_lanes.proofs.RowLanes.{all_shown, none_shown, not_shown}
+use Rattle.row_lanes.proofs.Passes.{carry_shown, next_shown}
 use borrow.Author.Rules.{rules}
 use Rattle.row_lanes.proofs.row.unary.Statement.{statement}
 use Rattle.row_lanes.proofs.row.unary.Tie as tie
@@ -20,18 +20,6 @@ returns-3 c = λ n q most all s. rw c.before.before.enum-told3.given.1 (carry_sh
 returns-4 : tie.Need-returns-4
 returns-4 c = λ n q most all s. rw c.before.enum-told4.given.1 (carry_shown n most (λ i. true) q c.carry2.ensures (all_shown n _ all) s)
 
-returns-5 : tie.Need-returns-5
-returns-5 c = λ n q most all s. rw c.before.before.enum-told5.given.1 (previous_shown n most q false c.before.previous.ensures s (signal_shown n _ _ (c.both.ensures (λ i. ltb i n) all)))
-
-returns-6 : tie.Need-returns-6
-returns-6 c = λ n q most all s. rw c.before.before.enum-told6.given.1 (previous_shown n most q true c.before.previous2.ensures s (signal_shown n _ _ (c.both2.ensures (λ i. ltb i n) all)))
-
-returns-7 : tie.Need-returns-7
-returns-7 c = λ n q most all s. rw c.before.enum-told7.given.1 (accumulate_shown n most (λ i. true) q false c.accumulate.ensures (all_shown n _ all) s)
-
-returns-8 : tie.Need-returns-8
-returns-8 c = λ n q most all s. rw c.before.before.enum-told8.given.1 (accumulate_shown n most q (λ i. false) true c.accumulate2.ensures s (none_shown n _ c.before.none2.ensures))
-
 pub unary-spec : {M : Type 1} → statement M
 unary-spec =
     tie.close
@@ -45,22 +33,7 @@ unary-spec =
     (λ c κs. search rules)
     (λ c. search rules)
     (λ c κs. search rules)
-    (λ c. search rules)
-    (λ c κs. search rules)
-    (λ c κs. search rules)
-    (λ c. search rules)
-    (λ c κs. search rules)
-    (λ c κs. search rules)
-    (λ c. search rules)
-    (λ c κs. search rules)
-    (λ c. search rules)
-    (λ c κs. search rules)
-    (λ c κs. search rules)
     returns
     returns-2
     returns-3
-    returns-4
-    returns-5
-    returns-6
-    returns-7
-    returns-8)
+    returns-4)

@@ -1,2 +1,0 @@
-pub mod Grants
-pub mod Others
