@@ -1,4 +1,6 @@
 // Answers as one number, for callers in C and Rust.
+#![tactic(auto)]
+
 ghost use Rattle.std.specs.Prelude.{◌≡◌};
 ghost use Rattle.answer_code.specs.Code.{bytes_code, check_code, finding_code, judge_code, maker_code, outcome_code, refusal_code, sign_of, verdict_code};
 

@@ -1,4 +1,6 @@
 // Between two rounds: which rows are sure, and where the next round starts. No cycle is filled here.
+#![tactic(auto)]
+
 ghost use Rattle.std.specs.Prelude.{◌≡◌, true, false, ℕ, suc, ◌≤◌, ◌<◌, length, set};
 ghost use Rattle.meaning.specs.Rows.{Each};
 ghost use Rattle.meaning.specs.Satisfaction.{table_of};

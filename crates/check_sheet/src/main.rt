@@ -1,5 +1,7 @@
 // Checks `sheet.txt` for `rule.txt` and `take.txt`, all in the working folder, and prints the finding or the refusal. All that is
 // printed comes from `check_text::check_read`; here files are only read, through the one buffer of `loading`, and bytes printed.
+#![tactic(auto)]
+
 use writing::answer::Bytes;
 
 fn main() {

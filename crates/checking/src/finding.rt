@@ -2,7 +2,7 @@
 use tables::refusal::Refusal;
 
 // What a check finds (01, "Monitors"), with row and cycle where it has them.
-#[derive(Drop)]
+#[derive(Clone, Copy)]
 pub enum Finding {
     Root,
     Failed(u8, u16),
@@ -11,7 +11,7 @@ pub enum Finding {
     Passes,
 }
 
-#[derive(Drop)]
+#[derive(Clone, Copy)]
 pub enum CheckAnswer {
     Refused(Refusal),
     Checked(Finding),

@@ -1,4 +1,6 @@
 // Checking a sheet (01, "Monitors"; demand 3): its monitors go along the take.
+#![tactic(auto)]
+
 ghost use Rattle.std.specs.Prelude.{◌≡◌};
 ghost use Rattle.tables.specs.Only.{TheOnly};
 ghost use Rattle.rule_file.specs.Valid.{InRange as FormulaInRange};

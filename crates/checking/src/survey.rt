@@ -12,7 +12,7 @@ use tables::trace::{Activation, Trace};
 
 // The earliest cycle in which a monitor fails, or the end, and the lowest row that fails there. Where none fails: the lowest row
 // without an accept that counts, and the lowest row that is pending after the last cycle. Rows count from 1; 0 is none.
-#[derive(Drop)]
+#[derive(Clone, Copy)]
 pub struct Survey {
     pub cycle: u16,
     pub failed: u8,

@@ -1,4 +1,6 @@
 // Circuit files: ASCII AIGER without symbols or comments (02, 4).
+#![tactic(auto)]
+
 ghost use Rattle.std.specs.Prelude.{◌≡◌, [], ◌≤◌, length};
 ghost use Rattle.text.specs.Result.{map_result};
 ghost use Rattle.text.specs.Result.Result.{refused};
@@ -13,14 +15,14 @@ use text::search::Found;
 
 // A circuit in memory: the header, and the numbers of the lines behind it, one after the other: of an input its literal; of a latch its
 // literal and the next one; of an output its literal; of a gate its left side and its two operands. Behind them stands 0.
-#[derive(Drop)]
+#[derive(Clone, Copy)]
 pub struct CircuitTable {
     pub header: Header,
     pub numbers: [u32; 32770],
 }
 
 // What reading a circuit file gives. (The table holds an array, so it stands beside the outcome; a refusal leaves it empty.)
-#[derive(Drop)]
+#[derive(Clone, Copy)]
 pub struct CircuitAnswer {
     pub outcome: Outcome,
     pub table: CircuitTable,
@@ -50,7 +52,7 @@ fn refuse(reason: Reason, line: usize) -> CircuitAnswer
 }
 
 // The header, with where the next line begins; or that the line is none.
-#[derive(Drop)]
+#[derive(Clone, Copy)]
 pub enum HeaderRead {
     Header(Header, usize),
     Wrong,

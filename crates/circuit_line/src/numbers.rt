@@ -6,7 +6,7 @@ use text::number::Number;
 use text::search::Found;
 
 // The numbers of a line, at most five, and 0 behind them; or that it has others.
-#[derive(Drop)]
+#[derive(Clone, Copy)]
 pub struct Numbers {
     pub right: bool,
     pub values: [usize; 5],
@@ -53,7 +53,7 @@ pub fn read_numbers(text: &[u8], count: usize) -> Numbers
 }
 
 // The numbers of a line, up to three, and 0 behind them, with where the next line begins; or that the line is not so many numbers.
-#[derive(Drop)]
+#[derive(Clone, Copy)]
 pub enum LineRead {
     Line(usize, usize, usize, usize),
     Wrong,

@@ -3,7 +3,7 @@ ghost use Rattle.std.specs.Prelude.{◌≡◌, ◌≤◌, ◌<◌};
 ghost use Rattle.circuit_line.specs.Section.{defines, is_possible, is_variable, section_of, width};
 
 // The numbers of `aag M I L O A`.
-#[derive(Drop)]
+#[derive(Clone, Copy)]
 pub struct Header {
     pub maximum: usize,
     pub inputs: usize,
@@ -12,7 +12,7 @@ pub struct Header {
     pub gates: usize,
 }
 
-#[derive(Drop)]
+#[derive(Clone, Copy)]
 pub enum Section {
     Inputs,
     Latches,

@@ -1,4 +1,6 @@
 // The values of a circuit's variables in a cycle, by their index; index 0 is the constant false.
+#![tactic(auto)]
+
 ghost use Rattle.std.specs.Prelude.{◌+◌, ◌*◌, ◌/◌, ◌≤◌, ◌<◌, ◌≡◌, false, length, get_or};
 ghost use Rattle.text.specs.Written.{digits_text};
 ghost use Rattle.writing.specs.Lent.{Wrote};

@@ -1,4 +1,6 @@
 // The file of a rule's circuit, into a lent buffer (02, 4).
+#![tactic(auto)]
+
 ghost use Rattle.std.specs.Prelude.{◌≡◌, ◌≤◌, length};
 ghost use Rattle.rule_file.specs.Valid.{InRange};
 ghost use Rattle.normal_form.specs.Form.{InNormalForm};

@@ -11,7 +11,7 @@ use row_wiring::Wiring;
 use tables::row::NormalForm;
 
 // What a monitor says, as the outputs have it.
-#[derive(Drop)]
+#[derive(Clone, Copy)]
 pub enum Said {
     Failed,
     Accept,

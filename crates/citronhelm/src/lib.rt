@@ -1,6 +1,8 @@
 // The services for programs in C and Rust (include/citronhelm.h): files in as bytes, an answer out as one number, and output into a
 // lent buffer. No state but a run's, which is bytes that the caller keeps; nothing asked of the caller. A slice passes as a pointer and a
 // length.
+#![tactic(auto)]
+
 ghost use Rattle.std.specs.Prelude.{[], ◌≡◌, length};
 ghost use Rattle.text.specs.Result.{outcome_of};
 ghost use Rattle.rule_file.specs.Rule.{parse_rule};

@@ -1,5 +1,7 @@
 // All rows of a normal form at one cycle of a lasso, from the cycle's signals and the rows one cycle on. The rows are prepared once as
 // steps; then a row costs the cells of its operands, its own, and one look into a table.
+#![tactic(auto)]
+
 ghost use Rattle.std.specs.Prelude.{◌≡◌};
 ghost use Rattle.tables.specs.declared.row.NormalForm.{NormalForm};
 ghost use Rattle.normal_form.specs.Form.{InNormalForm};

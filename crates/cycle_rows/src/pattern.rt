@@ -7,7 +7,7 @@ use tables::row::{BinaryKind, Row, UnaryKind};
 
 // A row is its right operand, or that one cycle later, or a connective of its two operands, or until or its like of them. The first bool
 // tells `or`, until and weak from `and` and the releases; the second what holds where the goal is never met.
-#[derive(Drop)]
+#[derive(Clone, Copy)]
 pub enum Pattern {
     Now,
     Next,

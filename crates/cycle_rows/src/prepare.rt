@@ -10,7 +10,7 @@ use crate::pattern::{Pattern, pattern_of};
 use crate::step_bit::step_bit;
 use tables::row::{NormalForm, Row};
 
-#[derive(Drop)]
+#[derive(Clone, Copy)]
 pub struct Steps {
     pub order: [u8; 512],
     pub truth: [u8; 128],

@@ -1,4 +1,6 @@
 // Files by name, for the programs: the one place where bytes come from outside.
+#![tactic(auto)]
+
 ghost use Rattle.std.specs.Prelude.{◌<◌, length};
 ghost use Rattle.io.specs.Counts.{IsPrefixLen};
 

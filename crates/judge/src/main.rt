@@ -1,5 +1,7 @@
 // Judges `take.txt` by `rule.txt`, both in the working folder, and prints the verdict or the refusal. All that is printed comes from
 // `judge_text::judge_read`; here files are only read, through the one buffer of `loading`, and bytes printed.
+#![tactic(auto)]
+
 use writing::answer::Bytes;
 
 fn main() {

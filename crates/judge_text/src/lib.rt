@@ -1,4 +1,6 @@
 // The text that program `judge` prints, from the bytes of its two files.
+#![tactic(auto)]
+
 ghost use Rattle.tables.specs.Only.{TheOnlyPair};
 ghost use Rattle.rule_file.specs.Valid.{InRange as FormulaInRange};
 ghost use Rattle.take_file.specs.Valid.{InRange as TraceInRange};

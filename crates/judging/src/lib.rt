@@ -1,4 +1,6 @@
 // Judging (01, "Meaning"; demand 2): the verdict on a formula and a trace.
+#![tactic(auto)]
+
 ghost use Rattle.std.specs.Prelude.{◌≡◌, ◌↔◌, true};
 ghost use Rattle.tables.specs.Only.{TheOnly};
 ghost use Rattle.rule_file.specs.Valid.{InRange as FormulaInRange};

@@ -2,7 +2,7 @@
 use tables::refusal::Refusal;
 
 // A looped take holds or breaks; an open one is kept, broken or open.
-#[derive(Drop)]
+#[derive(Clone, Copy)]
 pub enum Verdict {
     Holds,
     Breaks,
@@ -11,7 +11,7 @@ pub enum Verdict {
     Open,
 }
 
-#[derive(Drop)]
+#[derive(Clone, Copy)]
 pub enum Answer {
     Judged(Verdict),
     Refused(Refusal),

@@ -7,7 +7,7 @@ ghost use Rattle.meaning.specs.Approximant.{approximant};
 ghost use Rattle.lanes.specs.Word.{Ends};
 
 // For each cycle: `keep` holds for some number of cycles from there on, `goal` is met within that number with keep before it.
-#[derive(Drop)]
+#[derive(Clone, Copy)]
 pub struct Stretch {
     pub keep: u64,
     pub goal: u64,

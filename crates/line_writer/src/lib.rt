@@ -1,4 +1,6 @@
 // Lines of circuit files into lent buffers: of one, two or three numbers, and the header.
+#![tactic(auto)]
+
 ghost use Rattle.std.specs.Prelude.{[], ◌∷◌, ◌++◌, ◌+◌, ◌≤◌, ◌<◌, length};
 ghost use Rattle.tables.specs.Bytes.{bytes};
 ghost use Rattle.text.specs.Written.{decimal};

@@ -1,5 +1,7 @@
 // The files that the programs read, by their names in the working folder. Each is read into its table before the next is loaded, so
 // one buffer serves them all; here alone stand its size and the files' names and order.
+#![tactic(auto)]
+
 ghost use Rattle.std.specs.Prelude.{List, ◌≡◌, length, ℕ, ◌<◌};
 ghost use Rattle.rule_file.specs.Rule.{parse_rule, rule_answer};
 ghost use Rattle.take_file.specs.Take.{parse_take, take_answer};

@@ -1,5 +1,7 @@
 // Where a rule meets a take: the one place for what is refused of the two together, and for the normal form that every service behind it
 // goes on with.
+#![tactic(auto)]
+
 ghost use Rattle.std.specs.Prelude.{◌≡◌, eqb};
 ghost use Rattle.tables.specs.Choice.{pick};
 ghost use Rattle.tables.specs.Refusal.{call_refused, numbered};
@@ -15,7 +17,7 @@ use tables::row::{ConstantKind, Formula, NormalForm, Row, RowPlace};
 use tables::trace::{Ending, Trace};
 
 // Which takes a service is for: those of either kind, looped ones alone, open ones alone.
-#[derive(Drop)]
+#[derive(Clone, Copy)]
 pub enum Wanted {
     Either,
     Looped,
@@ -23,7 +25,7 @@ pub enum Wanted {
 }
 
 // The first refusal; or none, the rule's normal form, and the take that its sheets cover. (A refusal leaves an empty form.)
-#[derive(Drop)]
+#[derive(Clone, Copy)]
 pub struct Meeting {
     pub outcome: Outcome,
     pub form: NormalForm,

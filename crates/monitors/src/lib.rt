@@ -1,11 +1,13 @@
 // Monitors of the rows of a normal form (01, "Monitors"): what each says in one cycle.
+#![tactic(auto)]
+
 ghost use Rattle.std.specs.Prelude.{◌≡◌};
 ghost use Rattle.monitors.specs.Monitor.{awaits as awaitsOf, binary_monitor, checks as checksOf, constant_monitor, row_monitor, signal_monitor, unary_monitor, waits as waitsOf};
 
 use tables::row::{BinaryKind, ConstantKind, Row, SignalKind, UnaryKind};
 
 // What a monitor says in one cycle.
-#[derive(Drop)]
+#[derive(Clone, Copy)]
 pub struct Output {
     pub failed: bool,
     pub accept: bool,
@@ -13,7 +15,7 @@ pub struct Output {
 }
 
 // The row itself in this cycle: whether it is active, and whether it was pending one cycle earlier.
-#[derive(Drop)]
+#[derive(Clone, Copy)]
 pub struct RowState {
     pub active: bool,
     pub pending: bool,

@@ -1,5 +1,7 @@
 // Reads `rule.txt` in the working folder and writes the file of its normal form to standard output, or the refusal. What is written comes
 // from `normal_file::write_form`; here the file is only read, through the buffer of `loading`, and bytes printed.
+#![tactic(auto)]
+
 use normal_form::sign::Sign;
 use tables::refusal::Outcome;
 use writing::answer::Bytes;

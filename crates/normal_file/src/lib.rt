@@ -1,4 +1,6 @@
 // The normal form as a service: its rule file in a lent buffer, and a bound on that file's length.
+#![tactic(auto)]
+
 ghost use Rattle.std.specs.Prelude.{◌≡◌};
 ghost use Rattle.rule_file.specs.Valid.{InRange};
 ghost use Rattle.writing.specs.Answer.{Delivers};

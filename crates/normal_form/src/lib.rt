@@ -1,4 +1,6 @@
 // Negation normal form (01, "Normal form"): of a formula, and of its negation.
+#![tactic(auto)]
+
 ghost use Rattle.std.specs.Prelude.{◌≡◌};
 ghost use Rattle.rule_file.specs.Valid.{InRange};
 ghost use Rattle.normal_form.specs.Numbering.{normal_form};

@@ -3,7 +3,7 @@ ghost use Rattle.std.specs.Prelude.{◌≡◌, ◌*◌, ◌≤◌, ◌<◌};
 ghost use Rattle.normal_form.specs.Sign.{sign_of, slot_of, turned as turnedOf};
 
 // A row is taken as it stands, or negated.
-#[derive(Drop)]
+#[derive(Clone, Copy)]
 pub enum Sign {
     Plain,
     Negated,

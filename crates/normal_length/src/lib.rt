@@ -1,4 +1,6 @@
 // How long the normal form's file is (02, request 3): exactly, without writing it.
+#![tactic(auto)]
+
 ghost use Rattle.std.specs.Prelude.{◌≡◌, ◌≤◌, length};
 ghost use Rattle.rule_file.specs.Valid.{InRange};
 ghost use Rattle.row_writer.specs.Normal.{written_normal};

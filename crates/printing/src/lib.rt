@@ -1,5 +1,7 @@
 // What the programs print to standard output. The kit gives a program no exit status, so a write that failed (a full disk, a closed
 // descriptor) is told on standard error alone; nothing is left to tell where that fails too.
+#![tactic(auto)]
+
 use libc::{STDERR_FILENO, STDOUT_FILENO};
 use tables::refusal::Refusal;
 

@@ -1,4 +1,6 @@
 // A recording that grows cycle by cycle: the words of its signals, and the lanes from them.
+#![tactic(auto)]
+
 ghost use Rattle.std.specs.Prelude.{Bool, List, [], ◌∷◌, ◌++◌, ◌≡◌, ◌^◌, ◌≤◌, ◌<◌, eqb, length};
 ghost use Rattle.tables.specs.Choice.{pick};
 ghost use Rattle.text.specs.Digits.{digits_in};

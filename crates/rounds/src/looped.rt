@@ -11,7 +11,7 @@ use tables::row::NormalForm;
 use tables::trace::{Lane, Trace};
 
 // A lane for each row: lane k is that of row k + 1. And how many rounds it took.
-#[derive(Drop)]
+#[derive(Clone, Copy)]
 pub struct Looped {
     pub lanes: [Lane; 128],
     pub rounds: u8,

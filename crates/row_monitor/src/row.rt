@@ -10,7 +10,7 @@ use tables::row::Row;
 use tables::trace::Lane;
 
 // The lanes that a row's monitor reads: its own activator, and what stands at its numbers.
-#[derive(Drop)]
+#[derive(Clone, Copy)]
 pub struct Reads {
     pub active: Lane,
     pub first: Lane,
@@ -19,7 +19,7 @@ pub struct Reads {
 
 // How far a take is gone through: so many of its cycles, going on at `start` behind the last of them, up to `end`. Accepts count
 // from cycle `from` on.
-#[derive(Drop)]
+#[derive(Clone, Copy)]
 pub struct Course {
     pub cycles: u16,
     pub start: u16,
@@ -29,7 +29,7 @@ pub struct Course {
 
 // The first cycle in which the monitor fails, or the end; where it does not fail, whether it is pending after the last cycle, and
 // whether it has accepted in a cycle that counts.
-#[derive(Drop)]
+#[derive(Clone, Copy)]
 pub struct RowReport {
     pub failed: u16,
     pub pending: bool,

@@ -11,7 +11,7 @@ const EVERY: u64 = 0xffff_ffff_ffff_ffff;
 
 // What a row's monitor does in 64 cycles, a bit for each. Where the row is active: it fails, it is pending. Where it was pending one
 // cycle earlier: it fails (drops), it stays pending (holds).
-#[derive(Drop)]
+#[derive(Clone, Copy)]
 pub struct Moves {
     pub fails: u64,
     pub waits: u64,
@@ -20,7 +20,7 @@ pub struct Moves {
 }
 
 // Nothing fails in a word, and whether the monitor is pending behind it. (Where something fails, that does not count.)
-#[derive(Drop)]
+#[derive(Clone, Copy)]
 pub struct WordReport {
     pub clean: bool,
     pub pending: bool,

@@ -1,4 +1,6 @@
 // The gates of one row's monitor, by their literals (docs/CIRCUIT.md).
+#![tactic(auto)]
+
 ghost use Rattle.std.specs.Prelude.{◌+◌, ◌*◌, ◌≤◌, ◌<◌, ◌≡◌};
 ghost use Rattle.monitor_circuit.specs.Wiring.{awaits as awaitsOf, both as both_of, checks as checksOf, idle as idleOf};
 ghost use Rattle.monitor_circuit.specs.Wiring.{spare as spare_of, waits as waitsOf};
@@ -8,14 +10,14 @@ ghost use Rattle.row_wiring.specs.Own.{Small, operands_as, own_of, wiring_as, wi
 use tables::row::{BinaryKind, ConstantKind, Row, SignalKind, UnaryKind};
 
 // The operands of a gate.
-#[derive(Drop)]
+#[derive(Clone, Copy)]
 pub struct Operands {
     pub rhs0: u32,
     pub rhs1: u32,
 }
 
 // A row's three gates, and the literals of what its monitor says.
-#[derive(Drop)]
+#[derive(Clone, Copy)]
 pub struct Wiring {
     pub first: Operands,
     pub second: Operands,
@@ -26,7 +28,7 @@ pub struct Wiring {
 }
 
 // The literals of a row's own variables: its activator, its latch and its gates.
-#[derive(Drop)]
+#[derive(Clone, Copy)]
 pub struct Own {
     pub activator: u32,
     pub latch: u32,

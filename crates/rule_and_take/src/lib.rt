@@ -1,4 +1,6 @@
 // A rule file and a take file, as most services get them: read one after the other, with the first refusal.
+#![tactic(auto)]
+
 ghost use Rattle.std.specs.Prelude.{◌≡◌};
 ghost use Rattle.rule_file.specs.Rule.{parse_rule};
 ghost use Rattle.take_file.specs.Take.{parse_take};
@@ -11,7 +13,7 @@ use tables::trace::Trace;
 use take_file::take::TakeAnswer;
 
 // The first refusal, or both tables; a file that is refused leaves the empty one.
-#[derive(Drop)]
+#[derive(Clone, Copy)]
 pub struct Pair {
     pub outcome: Outcome,
     pub formula: Formula,

@@ -12,7 +12,7 @@ use tables::row::{ConstantKind, Formula, Row, RowPlace};
 use text::line::Counted;
 
 // What reading a rule file gives. (The formula holds an array, so it stands beside the outcome; a refusal leaves it empty.)
-#[derive(Drop)]
+#[derive(Clone, Copy)]
 pub struct RuleAnswer {
     pub outcome: Outcome,
     pub formula: Formula,

@@ -1,4 +1,6 @@
 // The line of a row.
+#![tactic(auto)]
+
 ghost use Rattle.std.specs.Prelude.{◌≡◌, ◌≤◌};
 ghost use Rattle.tables.specs.Kind.{with_numbers};
 ghost use Rattle.text.specs.Line.{is_numbered, keyed_line};
@@ -31,7 +33,7 @@ fn kind_named(word: &[u8]) -> Found
 
 // A row as its line's value has it: the kind's row and the numbers behind the word, which may lie outside their ranges and
 // so may not fit a row.
-#[derive(Drop)]
+#[derive(Clone, Copy)]
 pub enum RowForm {
     Form(Row, usize, usize),
     Formless,
@@ -112,7 +114,7 @@ pub fn in_range(signals: usize, number: usize, row: Row, first: usize, second: u
 }
 
 // A row, with where the next line begins; or the reason to refuse the line.
-#[derive(Drop)]
+#[derive(Clone, Copy)]
 pub enum RowLine {
     Row(Row, usize),
     Wrong(Reason),

@@ -1,4 +1,6 @@
 // Formulas as reading leaves them (01: "A rule in memory is its counts together with its 64 row places, the unused ones holding `true`").
+#![tactic(auto)]
+
 ghost use Rattle.std.specs.Prelude.{◌≡◌, ◌↔◌, true, ◌≤◌};
 ghost use Rattle.tables.specs.Place.{placed};
 ghost use Rattle.text.specs.Result.Result.{accepted};

@@ -1,4 +1,6 @@
 // A formula written out as its rule file.
+#![tactic(auto)]
+
 ghost use Rattle.std.specs.Prelude.{◌≡◌, ◌+◌, ◌≤◌, length};
 ghost use Rattle.text.specs.Written.{written_body};
 ghost use Rattle.rule_row.specs.Written.{written_row};

@@ -1,5 +1,7 @@
 // Judging while the take runs (02, request 1): a run begins with a rule, takes one cycle after another, and is called on for the open
 // verdict between any two. It is handed over and handed back by value.
+#![tactic(auto)]
+
 ghost use Rattle.std.specs.Prelude.{Bool, true, List, [], ◌∷◌, ◌++◌, ◌↔◌, ◌≡◌, ◌≤◌, ◌<◌, length};
 ghost use Rattle.tables.specs.declared.row.Formula.{Formula};
 ghost use Rattle.text.specs.Digits.{digits_in};
@@ -22,14 +24,14 @@ use tables::run::Run;
 use tables::trace::{Ending, Trace};
 
 // What beginning a run or handing it a cycle gives: how the call went, and the run as it is then.
-#[derive(Drop)]
+#[derive(Clone, Copy)]
 pub struct RunAnswer {
     pub outcome: Outcome,
     pub run: Run,
 }
 
 // What calling for the verdict gives, and the run as it was.
-#[derive(Drop)]
+#[derive(Clone, Copy)]
 pub struct VerdictAnswer {
     pub answer: Answer,
     pub run: Run,

@@ -1,4 +1,6 @@
 // A run as bytes that a caller in C keeps between calls, and back.
+#![tactic(auto)]
+
 ghost use Rattle.std.specs.Prelude.{true, ◌≡◌, ℕ, ◌+◌, ◌*◌, ◌≤◌, ◌<◌, ◌^◌, length, get_or};
 ghost use Rattle.tables.specs.Kind.{kind_count};
 ghost use Rattle.tables.specs.declared.run.Run.{Run};
@@ -175,7 +177,7 @@ fn decode(bytes: &[u8]) -> Run
 }
 
 // What bytes hold: a run, where they are the whole bytes of one; else `run` says nothing.
-#[derive(Drop)]
+#[derive(Clone, Copy)]
 pub struct Held {
     pub whole: bool,
     pub run: Run,

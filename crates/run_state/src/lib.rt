@@ -1,5 +1,7 @@
 // Runs for callers that keep them as bytes (02, request 1): the services of `run` on a state that is lent. Other bytes, or more or fewer,
 // are a state that no calls lead to.
+#![tactic(auto)]
+
 ghost use Rattle.std.specs.Prelude.{[], ◌≡◌};
 ghost use Rattle.rule_file.specs.Rule.{parse_rule};
 ghost use Rattle.rule_and_take.specs.File.{OnFile};

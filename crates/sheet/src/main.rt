@@ -1,6 +1,8 @@
 // Makes the activator sheet for `rule.txt` and `take.txt`, both in the working folder, and prints its file, or the line `none`, or the
 // refusal. All that is printed comes from `sheet_text::sheet_read`; here files are only read, through the one buffer of `loading`, and
 // bytes printed.
+#![tactic(auto)]
+
 use writing::answer::Bytes;
 
 fn main() {

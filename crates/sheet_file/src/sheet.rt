@@ -12,7 +12,7 @@ use text::digits::Digits;
 use text::line::Counted;
 
 // What reading a sheet file gives. (The table holds an array, so it stands beside the outcome; a refusal leaves it empty.)
-#[derive(Drop)]
+#[derive(Clone, Copy)]
 pub struct SheetAnswer {
     pub outcome: Outcome,
     pub activation: Activation,

@@ -1,4 +1,6 @@
 // How long the sheet's file is (02, request 3): exactly, without writing it, and 0 where the sheet maker answers `none`.
+#![tactic(auto)]
+
 ghost use Rattle.tables.specs.Only.{TheOnly};
 ghost use Rattle.rule_file.specs.Valid.{InRange as FormulaInRange};
 ghost use Rattle.take_file.specs.Valid.{InRange as TraceInRange};

@@ -1,4 +1,6 @@
 // The sheet maker (01, "Monitors"; demand 3): the activator sheet of a formula and a trace, or `none`.
+#![tactic(auto)]
+
 ghost use Rattle.std.specs.Prelude.{◌≡◌, ◌≤◌};
 ghost use Rattle.tables.specs.Only.{TheOnlyPair};
 ghost use Rattle.rule_file.specs.Valid.{InRange as FormulaInRange};
@@ -22,7 +24,7 @@ use writing::answer::Bytes;
 pub mod sheet;
 
 // How many bytes were written; `none` where there is no sheet; or the refusal.
-#[derive(Drop)]
+#[derive(Clone, Copy)]
 pub enum MakerAnswer {
     Written(usize),
     None,

@@ -1,4 +1,6 @@
 // One cycle of a circuit, from its file (02, 4).
+#![tactic(auto)]
+
 ghost use Rattle.std.specs.Prelude.{◌≡◌, length};
 ghost use Rattle.tables.specs.Only.{TheOnlyPair};
 ghost use Rattle.writing.specs.Answer.{Printed};

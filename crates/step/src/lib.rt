@@ -1,4 +1,6 @@
 // One cycle of the monitors of a rule, as a service (01, "Monitors").
+#![tactic(auto)]
+
 ghost use Rattle.std.specs.Prelude.{◌≡◌, ◌++◌, ◌≤◌, length, drop};
 ghost use Rattle.meaning.specs.Rows.{Each, EachSignal};
 ghost use Rattle.monitors.specs.Monitor.{monitor};

@@ -7,7 +7,7 @@ use crate::row::{BinaryKind, ConstantKind, Row, SignalKind, UnaryKind};
 
 // A kind of row: its word, filled up with zeros, and the word's length; the row of this kind with its numbers left at 0;
 // and the place of its partner under negation.
-#[derive(Drop)]
+#[derive(Clone, Copy)]
 pub struct Kind {
     pub word: [u8; 8],
     pub length: usize,

@@ -1,20 +1,20 @@
 // A row (01): a constant, a signal, one operand or two operands. What a kind means is said by its word in 01; the kinds that
 // share a shape are an enum of their own, so that most of the code and of the proofs has four cases.
 
-#[derive(Drop)]
+#[derive(Clone, Copy)]
 pub enum ConstantKind {
     True,
     False,
 }
 
 // `sig`, and `nsig`: the signal negated.
-#[derive(Drop)]
+#[derive(Clone, Copy)]
 pub enum SignalKind {
     Sig,
     Nsig,
 }
 
-#[derive(Drop)]
+#[derive(Clone, Copy)]
 pub enum UnaryKind {
     Not,
     Next,
@@ -22,7 +22,7 @@ pub enum UnaryKind {
     Ever,
 }
 
-#[derive(Drop)]
+#[derive(Clone, Copy)]
 pub enum BinaryKind {
     And,
     Or,
@@ -33,7 +33,7 @@ pub enum BinaryKind {
 }
 
 // Signal and operand numbers count from 1; an operand is the number of an earlier row.
-#[derive(Drop)]
+#[derive(Clone, Copy)]
 pub enum Row {
     Constant(ConstantKind),
     Signal(SignalKind, u8),
@@ -42,14 +42,14 @@ pub enum Row {
 }
 
 // A row place of a formula.
-#[derive(Drop)]
+#[derive(Clone, Copy)]
 pub struct RowPlace {
     pub row: Row,
 }
 
 // A formula (01: a rule in memory): its counts together with its 64 row places, the unused ones holding `true`. The last used
 // place is the root.
-#[derive(Drop)]
+#[derive(Clone, Copy)]
 pub struct Formula {
     pub signals: u8,
     pub rows: u8,
@@ -57,7 +57,7 @@ pub struct Formula {
 }
 
 // A formula in negation normal form (01: a normal form): no `not` rows, and up to 128 of them; the unused places hold `true`.
-#[derive(Drop)]
+#[derive(Clone, Copy)]
 pub struct NormalForm {
     pub signals: u8,
     pub rows: u8,

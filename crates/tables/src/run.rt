@@ -3,7 +3,7 @@ use crate::row::Formula;
 
 // A run: its rule, and the cycles so far as a recording holds them: word 32 * b + s has the cycles from 64 * b on of signal s, both
 // counted from 0.
-#[derive(Drop)]
+#[derive(Clone, Copy)]
 pub struct Run {
     pub formula: Formula,
     pub cycles: u16,

@@ -4,20 +4,20 @@ ghost use Rattle.tables.specs.Bit.{marked};
 
 // A lane: what one signal or one row is at each of up to 256 cycles; cycle c is bit c % 64 of word c / 64. Unused bits are 0.
 // Packed so that a take has 1 KB and a sheet 4 KB, and the layers above treat 64 cycles in one operation.
-#[derive(Drop)]
+#[derive(Clone, Copy)]
 pub struct Lane {
     pub words: [u64; 4],
 }
 
 // Where a trace goes on after its last cycle (01: `loop=`): nowhere, which makes it an open take, or at a cycle of its own.
-#[derive(Drop)]
+#[derive(Clone, Copy)]
 pub enum Ending {
     Open,
     Loop(u16),
 }
 
 // A trace (01: a take): a lane for each signal, signal 1 first.
-#[derive(Drop)]
+#[derive(Clone, Copy)]
 pub struct Trace {
     pub signals: u8,
     pub cycles: u16,
@@ -26,7 +26,7 @@ pub struct Trace {
 }
 
 // An activation table (01: a sheet): a lane for each row of a normal form, row 1 first.
-#[derive(Drop)]
+#[derive(Clone, Copy)]
 pub struct Activation {
     pub rows: u8,
     pub cycles: u16,

@@ -10,7 +10,7 @@ use text::line::Cut;
 use text::number::Number;
 
 // Where the trace goes on, with where the next line begins; or the reason to refuse the line.
-#[derive(Drop)]
+#[derive(Clone, Copy)]
 pub enum EndingLine {
     Ending(Ending, usize),
     Wrong(Reason),

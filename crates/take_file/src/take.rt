@@ -13,7 +13,7 @@ use text::digits::Digits;
 use text::line::Counted;
 
 // What reading a take file gives. (The trace holds an array, so it stands beside the outcome; a refusal leaves it empty.)
-#[derive(Drop)]
+#[derive(Clone, Copy)]
 pub struct TakeAnswer {
     pub outcome: Outcome,
     pub trace: Trace,

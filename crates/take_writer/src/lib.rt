@@ -1,4 +1,6 @@
 // A trace written out as its take file. Its length is known before, so it is written in place.
+#![tactic(auto)]
+
 ghost use Rattle.std.specs.Prelude.{◌≡◌, length, ◌≤◌};
 ghost use Rattle.take_file.specs.Valid.{InRange};
 ghost use Rattle.take_file.specs.Written.{written_take};

@@ -6,7 +6,7 @@ ghost use Rattle.text.specs.Digits.{DigitsWithin, are_digits, digits_form, digit
 use crate::search::Found;
 
 // Where the digits of a line begin and end.
-#[derive(Drop)]
+#[derive(Clone, Copy)]
 pub enum Digits {
     At(usize, usize),
     Wrong,

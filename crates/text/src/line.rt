@@ -8,7 +8,7 @@ use crate::search::Found;
 use tables::refusal::Reason;
 
 // Where the equals sign and the line feed of the first line stand.
-#[derive(Drop)]
+#[derive(Clone, Copy)]
 pub enum Cut {
     Line(usize, usize),
     Absent,
@@ -44,7 +44,7 @@ pub fn is_numbered(key: &[u8], letter: u8, number: usize) -> bool
 }
 
 // A count, with where the next line begins; or the reason to refuse the line.
-#[derive(Drop)]
+#[derive(Clone, Copy)]
 pub enum Counted {
     Count(usize, usize),
     Wrong(Reason),

@@ -4,7 +4,7 @@ ghost use Rattle.tables.specs.Bytes.{same_bytes};
 ghost use Rattle.text.specs.Search.{first_of};
 
 // Where something was found, or that it is not there.
-#[derive(Drop)]
+#[derive(Clone, Copy)]
 pub enum Found {
     At(usize),
     Nothing,

@@ -8,7 +8,7 @@ use tables::row::NormalForm;
 use tables::trace::{Ending, Lane, Trace};
 
 // A lane for each row: lane k is that of row k + 1.
-#[derive(Drop)]
+#[derive(Clone, Copy)]
 pub struct Truth {
     pub lanes: [Lane; 128],
 }

@@ -2,7 +2,7 @@
 use tables::refusal::Refusal;
 
 // How many bytes, or the refusal.
-#[derive(Drop)]
+#[derive(Clone, Copy)]
 pub enum Bytes {
     Count(usize),
     Refused(Refusal),

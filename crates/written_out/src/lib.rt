@@ -1,4 +1,6 @@
 // The take with rounds of its loop written out before the loop (02, request 6): the same endless repetition, with a loop that begins later.
+#![tactic(auto)]
+
 ghost use Rattle.std.specs.Prelude.{◌≡◌, ◌&&◌, ◌-◌, ◌≤◌, ◌<◌, ltb};
 ghost use Rattle.tables.specs.Bit.{bit_at, lane_of};
 ghost use Rattle.meaning.specs.Trace.{position};
@@ -8,7 +10,7 @@ ghost use Rattle.written_out.specs.WrittenOut.{written_lanes, written_loop, writ
 use tables::trace::{Ending, Lane, Trace, with_bit};
 
 // A trace of at most 256 cycles; or none where it would have more, and then the trace as it stands is beside that.
-#[derive(Drop)]
+#[derive(Clone, Copy)]
 pub struct WrittenOut {
     pub whole: bool,
     pub trace: Trace,

@@ -1,0 +1,6 @@
+use Rattle.lanes.proofs.Masks.{lane_masked}
+use borrow.Author.Rules.{rules}
+use Rattle.lanes.proofs.lane.both.Goals as goal
+
+pub returns : goal.returns
+returns c = record { lane = lane_masked c.args.a c.args.b }

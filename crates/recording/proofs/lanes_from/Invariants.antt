@@ -1,0 +1,11 @@
+use Prim.Native.Nat.{◌-◌}
+use mathlib.Core.Path.{refl}
+use borrow.Author.Rules.{rules}
+use Rattle.recording.proofs.Words.{LanesAt, lanes_start, lanes_more, lanes_end}
+use Rattle.recording.proofs.lanes_from.Given as goal
+
+abbrev pub invariant-loop-s : goal.invariant-loop-s
+invariant-loop-s l = LanesAt l.words l.s l.lanes
+
+abbrev pub decreases-loop-s : goal.decreases-loop-s
+decreases-loop-s l = 32 - l.s

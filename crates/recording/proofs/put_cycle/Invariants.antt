@@ -1,0 +1,12 @@
+use Prim.Native.Nat.{◌-◌}
+use mathlib.Core.Path.{◌≡◌, refl}
+use lib.ListN.{length}
+use borrow.Author.Rules.{rules}
+use Rattle.recording.proofs.Words.{PutAt, put_start, put_length, put_end, put_room, put_more, recorded_room, recorded_more}
+use Rattle.recording.proofs.put_cycle.Given as goal
+
+abbrev pub invariant-loop-s : goal.invariant-loop-s
+invariant-loop-s l = PutAt l.initial.words l.digits l.cycle l.s l.words × (length l.words ≡ 128)
+
+abbrev pub decreases-loop-s : goal.decreases-loop-s
+decreases-loop-s l = length l.digits - l.s

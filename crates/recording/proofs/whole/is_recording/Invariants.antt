@@ -1,0 +1,14 @@
+use Prim.Native.Nat.{◌-◌, ◌*◌, ◌≤◌}
+use mathlib.Core.Path.{refl, sym, ◌∙◌}
+use mathlib.Core.Bool.{false≢true}
+use native.Mathlib.Omega.{arith}
+use borrow.Author.Tests.{not-true, not-false}
+use borrow.Author.Rules.{rules}
+use Rattle.recording.proofs.Bounds.{FitBelow, fit_more, fit_all, recorded_cycles, recorded_signals}
+use Rattle.recording.proofs.whole.is_recording.Given as goal
+
+abbrev pub invariant-loop-block : goal.invariant-loop-block
+invariant-loop-block l = (l.block ≤ 4) × FitBelow l.words l.signals l.cycles (32 * l.block)
+
+abbrev pub decreases-loop-block : goal.decreases-loop-block
+decreases-loop-block l = 4 - l.block
