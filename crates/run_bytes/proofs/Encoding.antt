@@ -30,9 +30,9 @@ module _ (f : ℕ → ℕ) (at : ℕ) {bs : List ℕ} (e : bs ≡ filled run_len
       let b6 = fill_next run_length 0 f at 6 b5 (omega arith) (sym (b 6 (omega arith))) in
       fill_next run_length 0 f at 7 b6 (omega arith) (sym (b 7 (omega arith)))
 
-  pub row_put : {row : Row} {x y z : ℕ} → x ≡ place_of row → y ≡ first_number row → z ≡ second_number row → at + 3 ≤ run_length
+  pub row_put : (row : Row) {x y z : ℕ} → x ≡ place_of row → y ≡ first_number row → z ≡ second_number row → at + 3 ≤ run_length
       → ((j : ℕ) → j < 3 → f (at + j) ≡ row_byte row j) → set (set (set bs at x) (at + 1) y) (at + 2) z ≡ filled run_length 0 f (at + 3)
-  row_put p q r h b =
+  row_put row p q r h b =
       let b0 = fill_place run_length 0 f at e (omega arith) (p ∙ (sym (b 0 (omega arith)) ∙ start)) in
       let b1 = fill_next run_length 0 f at 1 b0 (omega arith) (q ∙ sym (b 1 (omega arith))) in
       fill_next run_length 0 f at 2 b1 (omega arith) (r ∙ sym (b 2 (omega arith)))

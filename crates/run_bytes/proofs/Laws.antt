@@ -1,12 +1,10 @@
 -- What crates above cite of a run's bytes: there are 1,220, and no two runs have the same. Assumes nothing.
 use mathlib.Core.Path.{◌≡◌, refl, sym, ap, ◌∙◌}
-use mathlib.Core.List.{List}
 use Prim.Native.Nat.{ℕ, ◌+◌, ◌*◌, ◌<◌}
 use native.Mathlib.Omega.{arith}
 use lib.ListN.{get_or, length}
 use Rattle.tables.specs.Kind.{first_number, kinds, no_kind, place_of, second_number, with_numbers}
 use Rattle.tables.specs.declared.row.Row.{Row}
-use Rattle.tables.specs.declared.row.RowPlace.{RowPlace}
 use Rattle.tables.specs.declared.run.Run.{Run}
 use Rattle.tables.proofs.Places.{tabulate_ext, tabulate_get_d}
 use Rattle.run_bytes.specs.Bytes.{Fits, no_place, row_of, run_bytes, run_length}
