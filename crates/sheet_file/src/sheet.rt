@@ -40,8 +40,8 @@ fn refuse(reason: Reason, line: usize) -> SheetAnswer
 // The rows, one line each, and nothing behind them.
 fn read_rows(body: &[u8], rows: usize, cycles: usize) -> SheetAnswer
     requires { (rows ≤ 128) × (cycles ≤ 256) }
-    ensures* answer { λ r. ⌜ r ≡ sheet_answer (map_result (activation_of rows cycles)
-        (body_lines 122 (λ r. digits_form cycles) rows 1 4 body.now)) ⌝ }
+    ensures answer { result ≡ sheet_answer (map_result (activation_of rows cycles)
+        (body_lines 122 (λ row. digits_form cycles) rows 1 4 body.now)) }
 {
     let mut rest = body;
     let mut lanes = [Lane { words: [0; 4] }; 128];
