@@ -1,11 +1,11 @@
 use Prim.Native.Nat.{◌-◌, ◌≤◌, ◌<◌}
 use mathlib.Core.Path.{◌≡◌, sym, subst, ◌∙◌}
-use mathlib.Core.Logic.{⊎_elim}
 use native.Mathlib.Omega.{arith}
 use borrow.Author.Rules.{rules}
 use Rattle.lanes.specs.Truth.{Shows}
 use Rattle.written_out.proofs.OneLane.{repeated, own_shows, lane_written, set_room, set_shows, left_shows}
 use Rattle.written_out.proofs.lane_out.Goals as goal
+use Rattle.written_out.proofs.lane_out.Goals.{then-bit, else-bit}
 
 pub loop-c-init : goal.loop-c-init
 loop-c-init c =
@@ -22,10 +22,10 @@ loop-c-preserved c =
     let read = sym c.bit.ensures.answer in (
       search rules,
       search rules,
-      ⊎_elim
-          (λ w. w.2 ∙ w.1.ensures ∙ set_shows _ _ c.requires.0 (omega (arith, c.requires.1, c.requires.2)) _ _ _ c.loop-c.invariant.0 h c.loop-c.invariant.2 (read ∙ w.0.taken))
-          (λ w. w.1 ∙ left_shows _ _ c.requires.0 (omega (arith, c.requires.1, c.requires.2)) _ _ _ c.loop-c.invariant.0 h c.loop-c.invariant.2 (read ∙ w.0.left))
-          c.if-bit.branch,
+      elim c.if-bit.branch [
+        then-bit w ↦ w.out-is ∙ w.with_bit-out.ensures.answer ∙ set_shows _ _ c.requires.0 (omega (arith, c.requires.1, c.requires.2)) _ _ _ c.loop-c.invariant.0 h c.loop-c.invariant.2 (read ∙ w.if-bit.true)
+        | else-bit w ↦ w.out-is ∙ left_shows _ _ c.requires.0 (omega (arith, c.requires.1, c.requires.2)) _ _ _ c.loop-c.invariant.0 h c.loop-c.invariant.2 (read ∙ w.if-bit.false)
+      ],
     )
 
 pub returns : goal.returns
