@@ -1,0 +1,12 @@
+use Prim.Native.Nat.{ℕ, suc, ◌-◌, ◌≤◌}
+use mathlib.Core.Path.{◌≡◌, subst⁻¹, subst}
+use native.Mathlib.Omega.{arith}
+use Rattle.cycle_rows.proofs.Cases.{CasesFrom, cases_none, cases_all, cases_more, byte_most}
+use borrow.Author.Rules.{rules}
+use Rattle.cycle_rows.proofs.prepare.table.Given as goal
+
+abbrev pub invariant-loop-m : goal.invariant-loop-m
+invariant-loop-m l = CasesFrom l.row l.m l.bits × (l.m ≤ 8)
+
+abbrev pub decreases-loop-m : goal.decreases-loop-m
+decreases-loop-m l = l.m
