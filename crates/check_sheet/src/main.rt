@@ -2,15 +2,24 @@
 // printed comes from `check_text::check_read`; here files are only read, through the one buffer of `loading`, and bytes printed.
 #![tactic(auto)]
 
+use std::io;
+use std::io::Write;
+use std::process::ExitCode;
+use std::rt::Files;
 use writing::answer::Bytes;
 
-fn main() {
-    let pair = loading::pair();
-    let third = loading::sheet();
+fn run<R: Files, W: Write>(rt: &R, out: &mut W) -> io::Result<()> {
+    let pair = loading::pair(rt);
+    let third = loading::sheet(rt);
     let mut text = [0u8; 64];
     let answer = check_text::check_read(pair, third, &mut text);
     match answer {
-        Bytes::Refused(refusal) => printing::print_refusal(refusal),
-        Bytes::Count(length) => printing::print_text(&text, length),
+        Bytes::Refused(refusal) => printing::print_refusal(out, refusal),
+        Bytes::Count(length) => printing::print_text(out, &text, length),
     }
+}
+
+fn main(rt: HostRuntime) -> ExitCode {
+    let written = run(&rt, &mut io::writer(&rt));
+    printing::tell(&rt, written)
 }

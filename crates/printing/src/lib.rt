@@ -1,59 +1,70 @@
-// What the programs print to standard output. The kit gives a program no exit status, so a write that failed (a full disk, a closed
-// descriptor) is told on standard error alone; nothing is left to tell where that fails too.
+// What the programs print, and how they end where it could not be written. Each function stops at the first write that fails.
 #![tactic(auto)]
 
-use libc::{STDERR_FILENO, STDOUT_FILENO};
+ghost use Rattle.std.specs.Prelude.{◌≡◌, ◌<◌, ◌≤◌, OnOk, OnErr, decimal, take, length};
+ghost use Rattle.std.specs.Io.KnownBytes.{Appends, Keeps};
+ghost use Rattle.std.specs.Process.{exit_status};
+ghost use Rattle.printing.specs.Lines.{key_line, refusal_lines};
+
+use std::io;
+use std::io::Write;
+use std::process::ExitCode;
 use tables::refusal::Refusal;
 
-fn tell(written: bool) {
-    if !written {
-        io::write_all(STDERR_FILENO, b"could not write to standard output\n");
+// The status of a program that has printed. A write that failed (a full disk, a closed descriptor) is told on standard error too; nothing
+// is left to tell where that fails as well.
+pub fn tell(rt: &impl Eprint, written: io::Result<()>) -> ExitCode
+    ensures written { OnOk written (exit_status result ≡ 0) }
+    ensures failed { OnErr written (exit_status result ≡ 1) }
+{
+    match written {
+        Ok(()) => ExitCode::SUCCESS,
+        Err(_) => {
+            let _ = rt.eprint("could not write to standard output\n");
+            ExitCode::FAILURE
+        }
     }
 }
 
-// Each of these stops at the first write that fails, so that it is told once.
-fn put_line(key: &[u8], n: u64) -> bool {
-    if !io::write_all(STDOUT_FILENO, key) {
-        return false;
-    }
-    if !io::print_decimal(STDOUT_FILENO, n) {
-        return false;
-    }
-    io::write_all(STDOUT_FILENO, b"\n")
+pub fn print_bytes<W: Write>(out: &mut W, text: &[u8]) -> io::Result<()>
+    ensures bytes { OnOk result (Appends (W.contents out.old) (W.contents out.new) text.now) }
+{
+    out.write_all(text)
 }
 
-fn put_refusal(refusal: Refusal) -> bool {
-    let reason = refusal.reason;
-    if !put_line(b"refused=", tables::refusal::reason_number(reason) as u64) {
-        return false;
-    }
-    if !put_line(b"file=", refusal.file as u64) {
-        return false;
-    }
-    put_line(b"line=", refusal.line as u64)
-}
-
-pub fn print_bytes(text: &[u8]) {
-    tell(io::write_all(STDOUT_FILENO, text));
-}
-
-pub fn print_number(n: u64) {
-    tell(io::print_decimal(STDOUT_FILENO, n));
+pub fn print_number<W: Write>(out: &mut W, n: u64) -> io::Result<()>
+    ensures bytes { OnOk result (Appends (W.contents out.old) (W.contents out.new) (decimal n)) }
+{
+    write!(out, "{n}")
 }
 
 // A key, a number, a line feed.
-pub fn print_line(key: &[u8], n: u64) {
-    tell(put_line(key, n));
+pub fn print_line<W: Write>(out: &mut W, key: &[u8], n: u64) -> io::Result<()>
+    ensures bytes { OnOk result (Appends (W.contents out.old) (W.contents out.new) (key_line key.now n)) }
+{
+    print_bytes(out, key)?;
+    print_number(out, n)?;
+    print_bytes(out, b"\n")
 }
 
 // The three lines of a refusal.
-pub fn print_refusal(refusal: Refusal) {
-    tell(put_refusal(refusal));
+pub fn print_refusal<W: Write>(out: &mut W, refusal: Refusal) -> io::Result<()>
+    ensures bytes { OnOk result (Appends (W.contents out.old) (W.contents out.new) (refusal_lines refusal)) }
+{
+    let reason = tables::refusal::reason_number(refusal.reason);
+    print_line(out, b"refused=", reason as u64)?;
+    print_line(out, b"file=", refusal.file as u64)?;
+    print_line(out, b"line=", refusal.line as u64)
 }
 
 // The part of a buffer that an answered call has filled.
-pub fn print_text(text: &[u8], length: usize) {
-    if length <= text.len() {
-        print_bytes(&text[..length]);
+pub fn print_text<W: Write>(out: &mut W, text: &[u8], count: usize) -> io::Result<()>
+    ensures filled { count ≤ length text.now → OnOk result (Appends (W.contents out.old) (W.contents out.new) (take count text.now)) }
+    ensures nothing { length text.now < count → Keeps (W.contents out.old) (W.contents out.new) }
+{
+    if count <= text.len() {
+        print_bytes(out, &text[..count])
+    } else {
+        Ok(())
     }
 }

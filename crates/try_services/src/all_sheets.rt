@@ -5,6 +5,9 @@ use crate::{case, show};
 use checking::finding::{CheckAnswer, Finding};
 use judging::verdict::Answer;
 use normal_form::sign::Sign;
+use std::io;
+use std::io::Write;
+use std::rt::Files;
 use tables::refusal::Outcome;
 use tables::row::Formula;
 use tables::trace::{Activation, Ending, Lane, Trace};
@@ -68,19 +71,19 @@ fn count_passing(formula: Formula, trace: Trace, rows: u8, end: u64) -> u64
     count
 }
 
-fn try_sheets(formula: Formula, trace: Trace, rows: u8) {
+fn try_sheets<W: Write>(out: &mut W, formula: Formula, trace: Trace, rows: u8) -> io::Result<()> {
     if 12 < rows {
-        return;
+        return Ok(());
     }
     if 12 < trace.cycles {
-        return;
+        return Ok(());
     }
     let digits = (rows as usize) * (trace.cycles as usize);
     if 12 < digits {
-        return;
+        return Ok(());
     }
     let end = power_of_two(digits);
-    printing::print_line(b"passing=", count_passing(formula, trace, rows, end));
+    printing::print_line(out, b"passing=", count_passing(formula, trace, rows, end))
 }
 
 fn judge(formula: Formula, trace: Trace) -> Answer {
@@ -91,33 +94,33 @@ fn judge(formula: Formula, trace: Trace) -> Answer {
     }
 }
 
-fn try_all(formula: Formula, trace: Trace) {
-    show::verdict(judge(formula, trace));
+fn try_all<W: Write>(out: &mut W, formula: Formula, trace: Trace) -> io::Result<()> {
+    show::verdict(out, judge(formula, trace))?;
     let outcome = rule_file::check::check_formula(formula);
     match outcome {
-        Outcome::Refused(refusal) => printing::print_refusal(refusal),
+        Outcome::Refused(refusal) => printing::print_refusal(out, refusal),
         Outcome::Accepted => {
             let form = normal_form::normal_form(formula, Sign::Plain);
-            try_sheets(formula, trace, form.rows);
+            try_sheets(out, formula, trace, form.rows)
         }
     }
 }
 
-fn report(case: &[u8]) {
+fn report<R: Files, W: Write>(rt: &R, out: &mut W, case: &[u8]) -> io::Result<()> {
     let mut rule = [0u8; 65537];
-    let n = case::load(case, 1, &mut rule);
+    let n = case::load(rt, case, 1, &mut rule);
     let mut take = [0u8; 65537];
-    let m = case::load(case, 2, &mut take);
+    let m = case::load(rt, case, 2, &mut take);
     let formula = rule_file::rule::read_rule(&rule[..n]);
     let trace = take_file::take::read_take(&take[..m]);
-    try_all(formula.formula, trace.trace);
+    try_all(out, formula.formula, trace.trace)
 }
 
 // Whether the case is one of these; if so, it is tried.
-pub fn tried(case: &[u8]) -> bool {
+pub fn tried<R: Files, W: Write>(rt: &R, out: &mut W, case: &[u8]) -> io::Result<bool> {
     if case::names(case, b"all_sheets") {
-        report(case);
-        return true;
+        report(rt, out, case)?;
+        return Ok(true);
     }
-    false
+    Ok(false)
 }

@@ -1,9 +1,10 @@
 // A case: an argument of the program, words parted by single spaces. The first names the service, the others are its inputs: names of
 // files, digits, the size of the buffer that is lent, calls. Between two spaces side by side is an empty word.
 ghost use Rattle.std.specs.Prelude.{◌≡◌, ◌≤◌, ◌<◌, length};
-ghost use Rattle.io.specs.Counts.{IsPrefixLen};
+ghost use Rattle.files.specs.Counts.{IsPrefixLen};
 
 use rule_file::rule::RuleAnswer;
+use std::rt::Files;
 use text::number::Number;
 
 // Where the part ends that begins at a place.
@@ -82,16 +83,16 @@ pub fn size(case: &[u8], number: usize, dots: &[u8]) -> usize
 }
 
 // The bytes of the file that a word names.
-pub fn load(case: &[u8], number: usize, space: &mut [u8]) -> usize
+pub fn load<R: Files>(rt: &R, case: &[u8], number: usize, space: &mut [u8]) -> usize
     requires { 65536 < length space.old }
     ensures counts { IsPrefixLen result space.new }
 {
-    files::load(word(case, number), space)
+    files::load(rt, word(case, number), space)
 }
 
 // The rule in the file that the second word names.
-pub fn load_rule(case: &[u8]) -> RuleAnswer {
+pub fn load_rule<R: Files>(rt: &R, case: &[u8]) -> RuleAnswer {
     let mut space = [0u8; 65537];
-    let n = load(case, 1, &mut space);
+    let n = load(rt, case, 1, &mut space);
     rule_file::rule::read_rule(&space[..n])
 }

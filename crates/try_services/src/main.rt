@@ -3,6 +3,8 @@
 // here, and an arm in `rust/second/src/bin/expected.rs`, which says what must be printed.
 #![tactic(auto)]
 
+ghost use Rattle.std.specs.Prelude.{◌≤◌, IfSome, length};
+
 mod all_sheets;
 mod case;
 mod changes;
@@ -15,46 +17,73 @@ mod show;
 mod takes;
 mod texts;
 
-fn report(case: &[u8]) {
-    printing::print_bytes(case);
-    printing::print_bytes(b"\n");
-    if reading::tried(case) {
-        return;
+use std::env::FillError;
+use std::io;
+use std::io::Write;
+use std::process::ExitCode;
+use std::rt::{Env, Files};
+
+fn report<R: Files, W: Write>(rt: &R, out: &mut W, case: &[u8]) -> io::Result<()> {
+    printing::print_bytes(out, case)?;
+    printing::print_bytes(out, b"\n")?;
+    if reading::tried(rt, out, case)? {
+        return Ok(());
     }
-    if rules::tried(case) {
-        return;
+    if rules::tried(rt, out, case)? {
+        return Ok(());
     }
-    if lengths::tried(case) {
-        return;
+    if lengths::tried(rt, out, case)? {
+        return Ok(());
     }
-    if circuits::tried(case) {
-        return;
+    if circuits::tried(rt, out, case)? {
+        return Ok(());
     }
-    if runs::tried(case) {
-        return;
+    if runs::tried(rt, out, case)? {
+        return Ok(());
     }
-    if texts::tried(case) {
-        return;
+    if texts::tried(rt, out, case)? {
+        return Ok(());
     }
-    if takes::tried(case) {
-        return;
+    if takes::tried(rt, out, case)? {
+        return Ok(());
     }
-    if !all_sheets::tried(case) {
-        printing::print_bytes(b"no such service\n");
+    if !all_sheets::tried(rt, out, case)? {
+        printing::print_bytes(out, b"no such service\n")?;
+    }
+    Ok(())
+}
+
+// An argument's bytes into a buffer, and how many, none of one that is longer; nothing behind the last.
+fn argument<R: Env>(rt: &R, i: usize, case: &mut [u8]) -> Option<usize>
+    ensures fits { IfSome result (λ n. n ≤ length case.new) }
+{
+    match rt.arg(i, case) {
+        Ok(n) => Some(n),
+        Err(FillError::TooLong) => Some(0),
+        Err(FillError::NotPresent) => None,
     }
 }
 
-fn report_argument(i: usize) {
-    let mut case = io::buffer();
-    let n = os::arg(i, &mut case);
-    report(&case[..n]);
+// Whether there is such an argument; if so, it is tried.
+fn report_argument<R: Env + Files, W: Write>(rt: &R, out: &mut W, i: usize) -> io::Result<bool> {
+    let mut case = [0u8; 4096];
+    let Some(n) = argument(rt, i, &mut case) else {
+        return Ok(false);
+    };
+    report(rt, out, &case[..n])?;
+    Ok(true)
 }
 
-fn main() {
-    let count = os::arg_count();
-    let mut i = 1;
-    while i < count {
-        report_argument(i);
-        i += 1;
+fn run<R: Env + Files, W: Write>(rt: &R, out: &mut W) -> io::Result<()> {
+    for i in 1..usize::MAX {
+        if !report_argument(rt, out, i)? {
+            break;
+        }
     }
+    Ok(())
+}
+
+fn main(rt: HostRuntime) -> ExitCode {
+    let written = run(&rt, &mut io::writer(&rt));
+    printing::tell(&rt, written)
 }

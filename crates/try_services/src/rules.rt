@@ -2,70 +2,83 @@
 // A rule that is refused has no table, and the service is not called.
 use crate::{case, show};
 use normal_form::sign::Sign;
+use std::io;
+use std::io::Write;
+use std::rt::Files;
 use tables::refusal::Outcome;
 use tables::row::Formula;
 
-fn bound(case: &[u8]) {
-    let read = case::load_rule(case);
+fn bound<R: Files, W: Write>(rt: &R, out: &mut W, case: &[u8]) -> io::Result<()> {
+    let read = case::load_rule(rt, case);
     let outcome = read.outcome;
     match outcome {
-        Outcome::Refused(refusal) => printing::print_refusal(refusal),
-        Outcome::Accepted => show::number(b"bound=", normal_file::bound(read.formula)),
+        Outcome::Refused(refusal) => printing::print_refusal(out, refusal),
+        Outcome::Accepted => show::number(out, b"bound=", normal_file::bound(read.formula)),
     }
 }
 
-fn write_normal(formula: Formula, sign: Sign, lent: &mut [u8]) {
+fn write_normal<W: Write>(
+    out: &mut W,
+    formula: Formula,
+    sign: Sign,
+    lent: &mut [u8],
+) -> io::Result<()> {
     let answer = normal_file::write_normal(formula, sign, &mut *lent);
-    show::lent(answer, lent);
+    show::lent(out, answer, lent)
 }
 
-fn normal(case: &[u8], sign: Sign) {
-    let read = case::load_rule(case);
+fn normal<R: Files, W: Write>(rt: &R, out: &mut W, case: &[u8], sign: Sign) -> io::Result<()> {
+    let read = case::load_rule(rt, case);
     let mut lent = case::dots();
     let size = case::size(case, 2, &lent);
     let outcome = read.outcome;
     match outcome {
-        Outcome::Refused(refusal) => printing::print_refusal(refusal),
-        Outcome::Accepted => write_normal(read.formula, sign, &mut lent[..size]),
+        Outcome::Refused(refusal) => printing::print_refusal(out, refusal),
+        Outcome::Accepted => write_normal(out, read.formula, sign, &mut lent[..size]),
     }
 }
 
-fn call_step(case: &[u8], formula: Formula, lent: &mut [u8]) {
+fn call_step<W: Write>(
+    out: &mut W,
+    case: &[u8],
+    formula: Formula,
+    lent: &mut [u8],
+) -> io::Result<()> {
     let pendings = case::word(case, 2);
     let activators = case::word(case, 3);
     let signals = case::word(case, 4);
     let answer = step::step(formula, pendings, activators, signals, &mut *lent);
-    show::lent(answer, lent);
+    show::lent(out, answer, lent)
 }
 
-fn step(case: &[u8]) {
-    let read = case::load_rule(case);
+fn step<R: Files, W: Write>(rt: &R, out: &mut W, case: &[u8]) -> io::Result<()> {
+    let read = case::load_rule(rt, case);
     let mut lent = case::dots();
     let size = case::size(case, 5, &lent);
     let outcome = read.outcome;
     match outcome {
-        Outcome::Refused(refusal) => printing::print_refusal(refusal),
-        Outcome::Accepted => call_step(case, read.formula, &mut lent[..size]),
+        Outcome::Refused(refusal) => printing::print_refusal(out, refusal),
+        Outcome::Accepted => call_step(out, case, read.formula, &mut lent[..size]),
     }
 }
 
 // Whether the case is one of these; if so, it is tried.
-pub fn tried(case: &[u8]) -> bool {
+pub fn tried<R: Files, W: Write>(rt: &R, out: &mut W, case: &[u8]) -> io::Result<bool> {
     if case::names(case, b"bound") {
-        bound(case);
-        return true;
+        bound(rt, out, case)?;
+        return Ok(true);
     }
     if case::names(case, b"normal") {
-        normal(case, Sign::Plain);
-        return true;
+        normal(rt, out, case, Sign::Plain)?;
+        return Ok(true);
     }
     if case::names(case, b"negated") {
-        normal(case, Sign::Negated);
-        return true;
+        normal(rt, out, case, Sign::Negated)?;
+        return Ok(true);
     }
     if case::names(case, b"step") {
-        step(case);
-        return true;
+        step(rt, out, case)?;
+        return Ok(true);
     }
-    false
+    Ok(false)
 }

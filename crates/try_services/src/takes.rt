@@ -1,6 +1,9 @@
 // Services on the trace of a take: `written_out TAKE ROUNDS`, which prints the take file or `none`. A take that is refused has no trace,
 // and the service is not called.
 use crate::{case, show};
+use std::io;
+use std::io::Write;
+use std::rt::Files;
 use tables::refusal::Outcome;
 use tables::trace::Trace;
 use text::number::Number;
@@ -15,41 +18,41 @@ fn rounds(case: &[u8]) -> u8 {
 }
 
 // The take file of the written-out form, or `none`. The longest take file has 32 signals, 256 cycles and no loop.
-fn show_take(out: WrittenOut) {
+fn show_take<W: Write>(out: &mut W, take: WrittenOut) -> io::Result<()> {
     let mut text = [0u8; 9659];
-    if out.whole {
-        let answer = take_writer::write_take(out.trace, &mut text);
-        show::text(answer, &text);
+    if take.whole {
+        let answer = take_writer::write_take(take.trace, &mut text);
+        show::text(out, answer, &text)
     } else {
-        printing::print_bytes(b"none\n");
+        printing::print_bytes(out, b"none\n")
     }
 }
 
 // The service takes traces in range alone, and the check says that this one is.
-fn call_written_out(case: &[u8], trace: Trace) {
+fn call_written_out<W: Write>(out: &mut W, case: &[u8], trace: Trace) -> io::Result<()> {
     let outcome = take_file::check::check_trace(trace);
     match outcome {
-        Outcome::Refused(refusal) => printing::print_refusal(refusal),
-        Outcome::Accepted => show_take(written_out::written_out(trace, rounds(case))),
+        Outcome::Refused(refusal) => printing::print_refusal(out, refusal),
+        Outcome::Accepted => show_take(out, written_out::written_out(trace, rounds(case))),
     }
 }
 
-fn written_out(case: &[u8]) {
+fn written_out<R: Files, W: Write>(rt: &R, out: &mut W, case: &[u8]) -> io::Result<()> {
     let mut space = [0u8; 65537];
-    let n = case::load(case, 1, &mut space);
+    let n = case::load(rt, case, 1, &mut space);
     let read = take_file::take::read_take(&space[..n]);
     let outcome = read.outcome;
     match outcome {
-        Outcome::Refused(refusal) => printing::print_refusal(refusal),
-        Outcome::Accepted => call_written_out(case, read.trace),
+        Outcome::Refused(refusal) => printing::print_refusal(out, refusal),
+        Outcome::Accepted => call_written_out(out, case, read.trace),
     }
 }
 
 // Whether the case is one of these; if so, it is tried.
-pub fn tried(case: &[u8]) -> bool {
+pub fn tried<R: Files, W: Write>(rt: &R, out: &mut W, case: &[u8]) -> io::Result<bool> {
     if case::names(case, b"written_out") {
-        written_out(case);
-        return true;
+        written_out(rt, out, case)?;
+        return Ok(true);
     }
-    false
+    Ok(false)
 }

@@ -1,51 +1,54 @@
 // What the programs print: `judge RULE TAKE`, `sheet RULE TAKE`, `check_sheet RULE TAKE SHEET`.
 use crate::{case, show};
+use std::io;
+use std::io::Write;
+use std::rt::Files;
 
-fn judge(case: &[u8]) {
+fn judge<R: Files, W: Write>(rt: &R, out: &mut W, case: &[u8]) -> io::Result<()> {
     let mut rule = [0u8; 65537];
-    let n = case::load(case, 1, &mut rule);
+    let n = case::load(rt, case, 1, &mut rule);
     let mut take = [0u8; 65537];
-    let m = case::load(case, 2, &mut take);
+    let m = case::load(rt, case, 2, &mut take);
     let mut text = [0u8; 64];
     let answer = judge_text::judge(&rule[..n], &take[..m], &mut text);
-    show::text(answer, &text);
+    show::text(out, answer, &text)
 }
 
-fn sheet(case: &[u8]) {
+fn sheet<R: Files, W: Write>(rt: &R, out: &mut W, case: &[u8]) -> io::Result<()> {
     let mut rule = [0u8; 65537];
-    let n = case::load(case, 1, &mut rule);
+    let n = case::load(rt, case, 1, &mut rule);
     let mut take = [0u8; 65537];
-    let m = case::load(case, 2, &mut take);
+    let m = case::load(rt, case, 2, &mut take);
     let mut text = [0u8; 33567];
     let answer = sheet_text::sheet(&rule[..n], &take[..m], &mut text);
-    show::text(answer, &text);
+    show::text(out, answer, &text)
 }
 
-fn check_sheet(case: &[u8]) {
+fn check_sheet<R: Files, W: Write>(rt: &R, out: &mut W, case: &[u8]) -> io::Result<()> {
     let mut rule = [0u8; 65537];
-    let n = case::load(case, 1, &mut rule);
+    let n = case::load(rt, case, 1, &mut rule);
     let mut take = [0u8; 65537];
-    let m = case::load(case, 2, &mut take);
+    let m = case::load(rt, case, 2, &mut take);
     let mut sheet = [0u8; 65537];
-    let k = case::load(case, 3, &mut sheet);
+    let k = case::load(rt, case, 3, &mut sheet);
     let mut text = [0u8; 64];
     let answer = check_text::check(&rule[..n], &take[..m], &sheet[..k], &mut text);
-    show::text(answer, &text);
+    show::text(out, answer, &text)
 }
 
 // Whether the case is one of these; if so, it is tried.
-pub fn tried(case: &[u8]) -> bool {
+pub fn tried<R: Files, W: Write>(rt: &R, out: &mut W, case: &[u8]) -> io::Result<bool> {
     if case::names(case, b"judge") {
-        judge(case);
-        return true;
+        judge(rt, out, case)?;
+        return Ok(true);
     }
     if case::names(case, b"sheet") {
-        sheet(case);
-        return true;
+        sheet(rt, out, case)?;
+        return Ok(true);
     }
     if case::names(case, b"check_sheet") {
-        check_sheet(case);
-        return true;
+        check_sheet(rt, out, case)?;
+        return Ok(true);
     }
-    false
+    Ok(false)
 }
