@@ -73,8 +73,8 @@ fn put_gates(values: &mut [bool], places: &[u16], numbers: &[u32], maximum: usiz
 // All of them, in a table in which none is on.
 pub fn evaluate(values: &mut [bool], numbers: &[u32], header: Header, inputs: &[u8], latches: &[u8])
     requires of_file { OfFile (table_with header numbers.now) }
-    requires inputs_len { (length inputs.now ≡ header.inputs) × (length latches.now ≡ header.latches) }
-    requires values_len { (length values.old ≡ 32770) × (get_or values.old 0 false ≡ false) }
+    requires digits { (length inputs.now ≡ header.inputs) × (length latches.now ≡ header.latches) }
+    requires none_on { (length values.old ≡ 32770) × (get_or values.old 0 false ≡ false) }
     ensures values { IsValuation (circuit_in (table_with header numbers.now)) (value_at inputs.now)
         (value_at latches.now) (value_of values.new) }
     ensures size { length values.new ≡ 32770 }
@@ -97,7 +97,7 @@ pub fn put_values(
     width: usize,
     count: usize,
 ) -> usize
-    requires spread { Spread numbers.now from width count × (at + count ≤ length buf.old) }
+    requires room { Spread numbers.now from width count × (at + count ≤ length buf.old) }
     requires literals_within { LiteralsWithin numbers.now from width count (length values.now) }
     ensures text { Wrote buf.old at (digits_text (values_at values.now numbers.now from width count))
         buf.new result }
