@@ -1,11 +1,11 @@
 -- The refusals of a cycle's digits in their order, and what digits that are accepted have. Assumes nothing.
 use Prim.Native.Nat.{ℕ}
 use mathlib.Core.Path.{◌≡◌, refl, sym, ap₂, ◌∙◌}
-use mathlib.Core.Bool.{Bool, true, false, not, ◌&&◌}
+use mathlib.Core.Bool.{Bool, true, false, ◌&&◌}
 use mathlib.Core.List.{List}
 use lib.Dec.{eqb}
 use lib.ListN.{length}
-use borrow.Author.Tests.{not-true, not-false, eqb-true, eq-eqb, ne_eqb}
+use borrow.Author.Tests.{eqb-true, eq-eqb, ne_eqb}
 use Rattle.tables.specs.Choice.{pick}
 use Rattle.tables.specs.Refusal.{and_then, call_refused}
 use Rattle.tables.specs.declared.refusal.Reason.TheVariants.{WrongForm, SignalsDiffer, SizeDiffers}
@@ -28,12 +28,12 @@ module _ (i l : ℕ) (inputs latches : List ℕ) where
     digits : (x && y) ≡ (are_digits inputs && are_digits latches)
     digits = ap₂ (λ u v. u && v) ei el
 
-    pub other_byte : not (x && y) ≡ true → call_refused WrongForm ≡ digits_outcome i l inputs latches
-    other_byte n = stops FromInputs (fails WrongForm (sym digits ∙ not-true _ n)) refl
+    pub other_byte : (x && y) ≡ false → call_refused WrongForm ≡ digits_outcome i l inputs latches
+    other_byte n = stops FromInputs (fails WrongForm (sym digits ∙ n)) refl
 
-    module _ (d : not (x && y) ≡ false) where
+    module _ (d : (x && y) ≡ true) where
       from_inputs : FromInputs ≡ digits_outcome i l inputs latches
-      from_inputs = goes FromInputs (passes WrongForm (sym digits ∙ not-false _ d)) refl
+      from_inputs = goes FromInputs (passes WrongForm (sym digits ∙ d)) refl
 
       pub other_inputs : ¬ (length inputs ≡ i) → call_refused SignalsDiffer ≡ digits_outcome i l inputs latches
       other_inputs n = stops FromLatches (fails SignalsDiffer (ne_eqb (length inputs) i n)) refl ∙ from_inputs

@@ -40,7 +40,7 @@ fn write_cycle(
     buf: &mut [u8],
 ) -> Bytes
     requires of_file { OfFile (table_with header numbers.now) }
-    requires inputs_len { (length inputs.now ≡ header.inputs) × (length latches.now ≡ header.latches) }
+    requires digits { (length inputs.now ≡ header.inputs) × (length latches.now ≡ header.latches) }
     ensures prints { Printed (IsCycle (circuit_in (table_with header numbers.now)) inputs.now
         latches.now) buf.old buf.new result }
 {
