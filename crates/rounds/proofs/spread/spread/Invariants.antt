@@ -1,0 +1,12 @@
+use Prim.Native.Nat.{◌-◌}
+use native.Mathlib.Omega.{arith}
+use Rattle.rounds.specs.Recorded.{SpreadTo}
+use Rattle.rounds.proofs.Spreading.{spread_more}
+use borrow.Author.Rules.{rules}
+use Rattle.rounds.proofs.spread.spread.Given as goal
+
+abbrev pub invariant-loop-s : goal.invariant-loop-s
+invariant-loop-s l = SpreadTo l.s l.cycles l.lanes l.digits
+
+abbrev pub decreases-loop-s : goal.decreases-loop-s
+decreases-loop-s l = l.signals - l.s
