@@ -1,11 +1,11 @@
 -- The refusals of a call in their order, and what an accepted call has. Assumes nothing.
 use Prim.Native.Nat.{ℕ, ◌≤◌, ◌<◌}
 use mathlib.Core.Path.{◌≡◌, refl, sym, ap, ap₂, ◌∙◌}
-use mathlib.Core.Bool.{Bool, true, false, not, ◌&&◌}
+use mathlib.Core.Bool.{Bool, true, false, ◌&&◌}
 use mathlib.Core.List.{List}
 use lib.Dec.{eqb, leb}
 use lib.ListN.{length}
-use borrow.Author.Tests.{not-true, not-false, eqb-true, le-leb, lt-leb, leb-true}
+use borrow.Author.Tests.{eqb-true, eq-eqb, ne_eqb, le-leb, lt-leb, leb-true}
 use Rattle.tables.specs.Choice.{pick}
 use Rattle.tables.specs.Refusal.{and_then, call_refused}
 use Rattle.tables.proofs.Outcomes.{stops, goes, fails, passes, both_accept, test_accepts}
@@ -31,8 +31,8 @@ module _ (g : NormalForm) (p a s : List ℕ) (room : ℕ) where
   sized = eqb (length p) (state_size g.rows) && eqb (length a) g.rows
 
   -- the test of the sizes with the one that was computed
-  pub measured : {size : ℕ} {b : Bool} → size ≡ state_size g.rows → not (eqb (length p) size && eqb (length a) g.rows) ≡ b → not sized ≡ b
-  measured e t = sym (ap (λ n. not (eqb (length p) n && eqb (length a) g.rows)) e) ∙ t
+  pub measured : {size : ℕ} {b : Bool} → size ≡ state_size g.rows → (eqb (length p) size && eqb (length a) g.rows) ≡ b → sized ≡ b
+  measured e t = sym (ap (λ n. eqb (length p) n && eqb (length a) g.rows) e) ∙ t
 
   -- the checks from each on
   abbrev FromRoom : Outcome
@@ -48,26 +48,26 @@ module _ (g : NormalForm) (p a s : List ℕ) (room : ℕ) where
     digits : ((x && y) && z) ≡ ((are_digits p && are_digits a) && are_digits s)
     digits = ap₂ (λ u v. u && v) (ap₂ (λ u v. u && v) ep ea) es
 
-    pub other_byte : not ((x && y) && z) ≡ true → call_refused WrongForm ≡ form_outcome g p a s room
-    other_byte n = stops FromSignals (fails WrongForm (sym digits ∙ not-true _ n)) refl
+    pub other_byte : ((x && y) && z) ≡ false → call_refused WrongForm ≡ form_outcome g p a s room
+    other_byte n = stops FromSignals (fails WrongForm (sym digits ∙ n)) refl
 
-    module _ (d : not ((x && y) && z) ≡ false) where
+    module _ (d : ((x && y) && z) ≡ true) where
       from_signals : FromSignals ≡ form_outcome g p a s room
-      from_signals = goes FromSignals (passes WrongForm (sym digits ∙ not-false _ d)) refl
+      from_signals = goes FromSignals (passes WrongForm (sym digits ∙ d)) refl
 
-      pub other_signals : not counted ≡ true → call_refused SignalsDiffer ≡ form_outcome g p a s room
-      other_signals n = stops FromSizes (fails SignalsDiffer (not-true counted n)) refl ∙ from_signals
+      pub other_signals : ¬ (length s ≡ g.signals) → call_refused SignalsDiffer ≡ form_outcome g p a s room
+      other_signals n = stops FromSizes (fails SignalsDiffer (ne_eqb (length s) g.signals n)) refl ∙ from_signals
 
-      module _ (e : not counted ≡ false) where
+      module _ (e : length s ≡ g.signals) where
         from_sizes : FromSizes ≡ form_outcome g p a s room
-        from_sizes = goes FromSizes (passes SignalsDiffer (not-false counted e)) refl ∙ from_signals
+        from_sizes = goes FromSizes (passes SignalsDiffer (eq-eqb (length s) g.signals e)) refl ∙ from_signals
 
-        pub other_sizes : not sized ≡ true → call_refused SizeDiffers ≡ form_outcome g p a s room
-        other_sizes n = stops FromRoom (fails SizeDiffers (not-true sized n)) refl ∙ from_sizes
+        pub other_sizes : sized ≡ false → call_refused SizeDiffers ≡ form_outcome g p a s room
+        other_sizes n = stops FromRoom (fails SizeDiffers n) refl ∙ from_sizes
 
-        module _ (m : not sized ≡ false) where
+        module _ (m : sized ≡ true) where
           from_room : FromRoom ≡ form_outcome g p a s room
-          from_room = goes FromRoom (passes SizeDiffers (not-false sized m)) refl ∙ from_sizes
+          from_room = goes FromRoom (passes SizeDiffers m) refl ∙ from_sizes
 
           pub too_short_lem : room < output_size g.rows → call_refused ShortBuffer ≡ form_outcome g p a s room
           too_short_lem l = fails ShortBuffer (lt-leb (output_size g.rows) room l) ∙ from_room
