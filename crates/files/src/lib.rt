@@ -1,16 +1,19 @@
 // Files by name, for the programs: the one place where bytes come from outside.
 #![tactic(auto)]
 
-ghost use Rattle.std.specs.Prelude.{◌<◌, length};
+ghost use Rattle.std.specs.Prelude.{◌<◌, length, take};
 ghost use Rattle.files.specs.Counts.{IsPrefixLen};
+ghost use Rattle.std.specs.Io.KnownBytes.{Consumes};
 
 use std::fs;
 use std::io::Read;
 use std::rt::Files;
 
-// Reads until the buffer is full, the reader ends or a read fails, and answers how many bytes it put at the buffer's start.
+// Reads until the buffer is full, the reader ends or a read fails, and answers how many bytes it put at the buffer's start: the reader's
+// first ones, in their order.
 fn read_full<R: Read>(reader: &mut R, buf: &mut [u8]) -> usize
     ensures counts { IsPrefixLen result buf.new }
+    ensures bytes { Consumes (R.remaining reader.old) (R.remaining reader.new) (take result buf.new) }
 {
     let mut done = 0;
     while done < buf.len() {
