@@ -83,8 +83,8 @@ module _ (f : Formula) (calls : ℕ → Call) where
     states_handed_on : HandedOn table (suc g.rows) signals active states
     states_handed_on =
         record {
-          fresh = record { same_pending = of_row_lem g.rows _ _ refl (λ k h. fresh_first.same_pending (suc k) (omega arith, omega arith)) };
-          next = λ c. record { same_pending = of_row_lem g.rows _ _ refl (λ k h. (left_next c).same_pending (suc k) (omega arith, omega arith)) };
+          fresh = record { same_pending = of_row_lem g.rows ((state_of 0).pending) _ refl (λ k h. fresh_first.same_pending (suc k) (omega arith, omega arith)) };
+          next = λ c. record { same_pending = of_row_lem g.rows ((state_of (suc c)).pending) _ refl (λ k h. (left_next c).same_pending (suc k) (omega arith, omega arith)) };
         }
 
     module _ (passes : StepsPass f calls classical) where
