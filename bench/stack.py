@@ -1,7 +1,7 @@
 #!/usr/bin/env python3
 """Says how much stack each function of the library needs: bytes below the call, the return address included.
 
-    rt staticlib citronhelm && (cd bench && cargo build --release)
+    (cd crates/citronhelm && rt lib) && (cd bench && cargo build --release)
     bench/stack.py             measured, with the bound beside it
     bench/stack.py lazy        measured with what the loader takes to bind memcpy and memset at their first call
     bench/stack.py bound       the bound alone, as the gate does it
@@ -23,7 +23,7 @@ import sys
 import tempfile
 
 ROOT = os.path.join(os.path.dirname(os.path.abspath(__file__)), '..')
-LIBRARY = os.path.join(os.environ.get('CITRONHELM_LIB', os.path.join(ROOT, 'target/staticlib')), 'libcitronhelm.a')
+LIBRARY = os.path.join(os.environ.get('CITRONHELM_LIB', os.path.join(ROOT, 'crates/citronhelm/out')), 'libcitronhelm.a')
 HEADER = os.path.join(ROOT, 'include/citronhelm.h')
 SYSTEM = 128  # Debian's glibc takes 8, the return address
 

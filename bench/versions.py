@@ -1,7 +1,7 @@
 #!/usr/bin/env python3
 """Measures the library beside another version of it: every function that reads files, on files of full size.
 
-    rt staticlib citronhelm && (cd bench && cargo build --release)
+    (cd crates/citronhelm && rt lib) && (cd bench && cargo build --release)
     bench/versions.py OTHER       OTHER/libcitronhelm.a is the other version; needs valgrind
 
 Instructions: those of one call, counted by callgrind inside the function. Times: both versions take turns in one process (versions.c);
@@ -14,7 +14,7 @@ import sys
 import tempfile
 
 ROOT = os.path.join(os.path.dirname(os.path.abspath(__file__)), '..')
-LIBRARY = os.path.join(os.environ.get('CITRONHELM_LIB', os.path.join(ROOT, 'target/staticlib')), 'libcitronhelm.a')
+LIBRARY = os.path.join(os.environ.get('CITRONHELM_LIB', os.path.join(ROOT, 'crates/citronhelm/out')), 'libcitronhelm.a')
 INSTRUCTIONS_A_ROUND = 500_000  # some 120 µs
 CALLS = [  # function, inputs, bytes lent
     ('read_rule', ['rule.txt'], 0),

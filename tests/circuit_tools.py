@@ -4,7 +4,7 @@ report's binary form, and Icarus Verilog simulates what yosys makes of it, on ra
 start and beside our own simulator. By hand, not in the gate.
 
     apt-get install yosys berkeley-abc iverilog
-    rt staticlib citronhelm
+    (cd crates/citronhelm && rt lib)
     tests/circuit_tools.py [--rules N] [--cycles N] [--seed N]
 
 The circuits are those of all rules in examples/ that are accepted, and of N random ones. Prints every difference and what was seen; the
@@ -28,9 +28,9 @@ TWO = ('and', 'or', 'weak', 'until', 'release', 'srelease')
 
 class Library:
     def __init__(self, folder):
-        archive = os.path.join(HERE, 'target', 'staticlib', 'libcitronhelm.a')
+        archive = os.path.join(HERE, 'crates', 'citronhelm', 'out', 'libcitronhelm.a')
         if not os.path.exists(archive):
-            sys.exit('tests/circuit_tools.py: build the library first: rt staticlib citronhelm')
+            sys.exit('tests/circuit_tools.py: build the library first: (cd crates/citronhelm && rt lib)')
         shared = os.path.join(folder, 'citronhelm.so')
         subprocess.run(['cc', '-shared', '-o', shared, '-Wl,--whole-archive', archive, '-Wl,--no-whole-archive'], check=True)
         self.library = ctypes.CDLL(shared)

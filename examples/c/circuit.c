@@ -2,8 +2,8 @@
  * Writes the monitors of the rule in the file named on the command line as a circuit, an ASCII AIGER file, to standard output, by the
  * proved library.
  *
- *     rt staticlib citronhelm
- *     cc -std=c99 -Wall -Wextra -Werror -I include examples/c/circuit.c target/staticlib/libcitronhelm.a -o circuit_c
+ *     (cd crates/citronhelm && rt lib)
+ *     cc -std=c99 -Wall -Wextra -Werror -I include examples/c/circuit.c crates/citronhelm/out/libcitronhelm.a -o circuit_c
  *     ./circuit_c examples/rule_a/rule.txt >rule_a.aag
  *
  * Prints the refusal's number, file and line where the rule is refused.

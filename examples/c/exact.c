@@ -2,8 +2,8 @@
  * Writes into exactly as many bytes as are needed, by the proved library: the normal form of the rule in the file named on the command
  * line, or, where a take is named behind it, the sheet of the two. The length is asked for first, and so much memory is lent.
  *
- *     rt staticlib citronhelm
- *     cc -std=c99 -Wall -Wextra -Werror -I include examples/c/exact.c target/staticlib/libcitronhelm.a -o exact_c
+ *     (cd crates/citronhelm && rt lib)
+ *     cc -std=c99 -Wall -Wextra -Werror -I include examples/c/exact.c crates/citronhelm/out/libcitronhelm.a -o exact_c
  *     ./exact_c examples/rule_a/rule.txt
  *     ./exact_c examples/rule_a/rule.txt examples/rule_a/take.txt
  *

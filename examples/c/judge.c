@@ -1,8 +1,8 @@
 /*
  * Judges the rule and the take in the two files named on the command line, by the proved library.
  *
- *     rt staticlib citronhelm
- *     cc -std=c99 -Wall -Wextra -Werror -I include examples/c/judge.c target/staticlib/libcitronhelm.a -o judge_c
+ *     (cd crates/citronhelm && rt lib)
+ *     cc -std=c99 -Wall -Wextra -Werror -I include examples/c/judge.c crates/citronhelm/out/libcitronhelm.a -o judge_c
  *     ./judge_c examples/c/rule.txt examples/c/take.txt
  *
  * Prints the verdict, or the refusal's number, file and line.

@@ -2,8 +2,8 @@
  * Judges a take while it is recorded, by the rule in the file named on the command line. Each line of standard input is a cycle, a digit
  * for each signal, and is answered at once by a line: the verdict after it, or the refusal's number, and the run goes on.
  *
- *     rt staticlib citronhelm
- *     cc -std=c99 -Wall -Wextra -Werror -I include examples/c/watch.c target/staticlib/libcitronhelm.a -o watch_c
+ *     (cd crates/citronhelm && rt lib)
+ *     cc -std=c99 -Wall -Wextra -Werror -I include examples/c/watch.c crates/citronhelm/out/libcitronhelm.a -o watch_c
  *     ./watch_c examples/run/rule.txt <examples/run/cycles.txt
  *
  * A rule that is refused has no run: its number, file and line are printed.

@@ -4,14 +4,14 @@ use std::path::PathBuf;
 
 fn main() {
     println!("cargo:rerun-if-env-changed=CITRONHELM_LIB");
-    let usual = concat!(env!("CARGO_MANIFEST_DIR"), "/../../target/staticlib");
+    let usual = concat!(env!("CARGO_MANIFEST_DIR"), "/../../crates/citronhelm/out");
     let folder = std::env::var_os("CITRONHELM_LIB").map_or(PathBuf::from(usual), PathBuf::from);
     let library = folder.join("libcitronhelm.a");
     println!("cargo:rerun-if-changed={}", library.display());
     if !library.is_file() {
         eprintln!("Citronhelm's library is not there: {}", library.display());
         eprintln!(
-            "Run `rt staticlib citronhelm` in the repository's root, or set CITRONHELM_LIB to the folder of libcitronhelm.a."
+            "Run `rt lib` in the repository's folder crates/citronhelm, or set CITRONHELM_LIB to the folder of libcitronhelm.a."
         );
         std::process::exit(1);
     }
