@@ -56,8 +56,8 @@ printf '01\n%.0s' {1..257} >"$scratch/cycles"
 { printf 'open\n%.0s' {1..256} && echo refused=11; } >"$scratch/watched"
 
 if [ -z "${CITRONHELM_LIB:-}" ]; then
-    quietly rt staticlib citronhelm
-    CITRONHELM_LIB=target/staticlib
+    quietly env -C crates/citronhelm rt lib
+    CITRONHELM_LIB=crates/citronhelm/out
 fi
 CITRONHELM_LIB=$(realpath "$CITRONHELM_LIB")
 export CITRONHELM_LIB

@@ -1,10 +1,10 @@
 #!/usr/bin/env bash
 # Runs each program with each of its files at the limit of length, 65,536 bytes, and beyond it, the other files being valid, and holds all
 # that it prints to what 01 says: such a file is refused with 2 in the line that is not of its form, a longer one with 1 and line 0.
-#     tests/limits.sh [FOLDER]      the programs' folder; target/bin where none is given
+#     tests/limits.sh [FOLDER]      the programs, FOLDER/NAME; where none is given crates/NAME/out/NAME, as `rt ci` and `rt run` leave them
 set -euo pipefail
 cd "$(dirname "$0")/.."
-bin=$(realpath "${1:-target/bin}")
+bin=$(realpath "${1:-crates}")
 valid=$PWD/examples/sheet_passes
 folder=$(mktemp -d)
 trap 'rm -rf "$folder"' EXIT
@@ -12,10 +12,15 @@ cd "$folder"
 names=(rule take sheet)
 runs=0 failed=0
 
+# program NAME: its path.
+program() {
+    if [ -d "$bin/$1" ]; then echo "$bin/$1/out/$1"; else echo "$bin/$1"; fi
+}
+
 # expect PROGRAM TEXT: the program's print-out in the folder must be the text.
 expect() {
     runs=$((runs + 1))
-    "$bin/$1" >said 2>&1 || echo "status $?" >>said
+    "$(program "$1")" >said 2>&1 || echo "status $?" >>said
     printf '%b' "$2" >due
     cmp -s said due && return
     failed=$((failed + 1))
@@ -48,8 +53,12 @@ at_limits() {
     done
 }
 
-for program in judge sheet check_sheet normal; do
-    [ -x "$bin/$program" ] || { echo "tests/limits.sh: $bin/$program is not there: rt check judge sheet check_sheet normal" >&2; exit 1; }
+programs='judge sheet check_sheet normal'
+for name in $programs; do
+    path=$(program "$name")
+    [ -x "$path" ] && [ ! -d "$path" ] && continue
+    echo "tests/limits.sh: $path is not there: for p in $programs; do (cd crates/\$p && rt run >/dev/null); done" >&2
+    exit 1
 done
 at_limits judge 2
 at_limits sheet 2

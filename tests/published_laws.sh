@@ -6,18 +6,22 @@
 set -euo pipefail
 cd "$(dirname "$0")/.."
 reading='text|rule_row|rule_file|take_file|sheet_file|circuit_line|circuit_file|padding'
-others=$(grep -rnE "Rattle·($reading)\.proofs\." crates --include='*.antt' --include='*.rt' |
-    grep -vE "^crates/($reading|rule_and_take)/|\.proofs\.(Laws|Rules|Takes|Sheets|Circuits|CircuitTables)\." || true)
+# Imports are written with points (Rattle.text.proofs.Laws.{..}), the lemmas that a function names for its tactic with two colons.
+cited() {
+    grep -rnE "\b($1)(\.|::)proofs(\.|::)" crates --include='*.antt' --include='*.rt' --exclude-dir=out || true
+}
+others=$(cited "$reading" |
+    grep -vE "^crates/($reading|rule_and_take)/|(\.|::)proofs(\.|::)(Laws|Rules|Takes|Sheets|Circuits|CircuitTables)(\.|::)" || true)
 if [ -n "$others" ]; then
     printf '%s\n' "$others" "tests/published_laws.sh: these cite how a reader is proved" >&2
     exit 1
 fi
-bytes=$(grep -rnE "Rattle·padding\.proofs\." crates --include='*.antt' --include='*.rt' || true)
+bytes=$(cited padding | grep -v '^crates/padding/' || true)
 if [ -n "$bytes" ]; then
     printf '%s\n' "$bytes" "tests/published_laws.sh: these lean on the bytes of an accepted file" >&2
     exit 1
 fi
-proofs=$(grep -rnE "Rattle·[^ ;]*\.proofs\." crates/*/src crates/*/specs || true)
+proofs=$(grep -rnE "Rattle\.[^ ;]*\.proofs\." crates/*/src crates/*/specs || true)
 if [ -n "$proofs" ]; then
     printf '%s\n' "$proofs" "tests/published_laws.sh: these contracts and definitions cite proofs" >&2
     exit 1

@@ -10,7 +10,7 @@
 //! number or with such a rule on a looped take: then the calls did not try everything.
 //!
 //! With `--programs` it runs the programs in the folder on the files of the random calls instead, and holds what they print to the second
-//! implementation.
+//! implementation: FOLDER/NAME, or FOLDER/NAME/out/NAME where the folder has their crates.
 
 #![forbid(unsafe_code)]
 

@@ -4,7 +4,7 @@ use crate::call::{Call, Service};
 use crate::trials::random_calls;
 use second::{check_sheet, judge_text, make_sheet, normal, Refusal};
 use std::collections::BTreeMap;
-use std::path::Path;
+use std::path::{Path, PathBuf};
 use std::process::Command;
 
 /// The names under which the programs read a call's files.
@@ -26,7 +26,8 @@ pub fn hold_programs(folder: &Path, seed: u64, runs: u64) -> Result<BTreeMap<&'s
         }
         last = files;
         *counts.entry(program).or_default() += 1;
-        let printed = printed(&folder.join(program), &scratch, call).map_err(|fault| format!("{program}: {fault}"))?;
+        let printed =
+            printed(&built(folder, program), &scratch, call).map_err(|fault| format!("{program}: {fault}"))?;
         match printed == text {
             true => Ok(()),
             false => Err(format!("different: {program} prints b\"{}\": {call}", printed.escape_ascii())),
@@ -34,6 +35,16 @@ pub fn hold_programs(folder: &Path, seed: u64, runs: u64) -> Result<BTreeMap<&'s
     });
     std::fs::remove_dir_all(&scratch).ok();
     held.map(|()| counts)
+}
+
+/// Where a program is: in the folder itself, or in the folder `out` of its crate there.
+fn built(folder: &Path, program: &str) -> PathBuf {
+    let path = folder.join(program);
+    if path.is_dir() {
+        path.join("out").join(program)
+    } else {
+        path
+    }
 }
 
 /// The program whose work a call is, and what it must print.
