@@ -82,8 +82,8 @@ module _ {S : Type 0} (state_of : Formula → List (List Bool) → S) where
 
   part : {s t : S} (before behind : List Call) → Called state_of s (before ++ behind) t → Parted s before behind t
   part [] behind x = record { between = _; first = none; then = x }
-  part (c ∷ before) behind (call x rest) =
-      let p = part before behind rest in
+  part {s = s} {t = t} (c ∷ before) behind (call {between = between} x rest) =
+      let p = part {s = between} before behind rest in
       record { between = p.between; first = call x p.first; then = p.then }
 
   -- ---- a run begins with a rule
@@ -122,8 +122,10 @@ module _ {S : Type 0} (state_of : Formula → List (List Bool) → S) where
   -- A CALL FOR THE VERDICT CHANGES NOTHING: the same list without these calls, with the same answers, leads from any state to the same
   pub as_if_nobody_called : {s t : S} (calls : List Call) → Called state_of s calls t → Called state_of s (without_verdicts calls) t
   as_if_nobody_called [] none = none
-  as_if_nobody_called (cycle digits o ∷ calls) (call x rest) = call x (as_if_nobody_called calls rest)
-  as_if_nobody_called {s} {t} (verdict a ∷ calls) (call x rest) = subst (λ y. Called state_of y (without_verdicts calls) t) x.unaltered (as_if_nobody_called calls rest)
+  as_if_nobody_called {s = s} {t = t} (cycle digits o ∷ calls) (call {between = between} x rest) =
+      call x (as_if_nobody_called {s = between} calls rest)
+  as_if_nobody_called {s = s} {t = t} (verdict a ∷ calls) (call {between = between} x rest) =
+      subst (λ y. Called state_of y (without_verdicts calls) t) x.unaltered (as_if_nobody_called {s = between} calls rest)
 
   -- 4 EXACTLY WHERE NO CALLS LEAD TO THE STATE: no cycle of a run is refused so
   pub four_exactly : (s t : S) (digits : List ℕ) (o : Outcome) → Answered state_of s (cycle digits o) t

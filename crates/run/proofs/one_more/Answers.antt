@@ -1,0 +1,6 @@
+use Rattle.run.proofs.Services.{one_more}
+use borrow.Author.Rules.{rules}
+use Rattle.run.proofs.one_more.Goals as goal
+
+pub returns : goal.returns
+returns c = record { more = one_more c.args.run c.args.digits.now c.put_cycle.ensures.appended }
