@@ -12,8 +12,9 @@ Measured: each function on a painted stack (stack.c), on files of full size and 
 that a call took.
 
 The bound is read off the machine code and is one for all inputs: the frames along the deepest path of calls. It can be read off since no
-function calls itself, none is called by pointer, and each moves its stack pointer by constants in its prologue and nowhere else, but for
-registers that are saved further on, which all count; where that is not so, this script fails. For memcpy and memset it takes SYSTEM bytes."""
+function calls itself, none is called by pointer, and each moves its stack pointer by constants, so that at each instruction it is as deep
+on every way there; where that is not so, this script fails. Of a function the deepest place counts, as if it called from there. For memcpy
+and memset it takes SYSTEM bytes."""
 import collections
 import functools
 import os
@@ -29,60 +30,98 @@ SYSTEM = 128  # Debian's glibc takes 8, the return address
 
 
 def disassembled():
-    """The instructions of each function, as pairs of a name and its operands; a relocation stands behind its instruction."""
+    """The instructions of each function by their addresses, as triples of a name, its operands, and what a relocation has for them."""
     text = subprocess.run(['objdump', '-dr', '--no-show-raw-insn', LIBRARY], capture_output=True, check=True, text=True).stdout
     functions = {}
     for line in text.split('\n'):
         if head := re.fullmatch(r'[0-9a-f]+ <(.*)>:', line):
-            functions[head[1]] = instructions = []
-        elif instruction := re.fullmatch(r' +[0-9a-f]+:\t(\S+) *(.*)', line):
-            instructions.append((instruction[1], instruction[2].strip()))
+            functions[head[1]] = instructions = {}
+        elif instruction := re.fullmatch(r' +([0-9a-f]+):\t(\S+) *(.*)', line):
+            last = int(instruction[1], 16)
+            instructions[last] = instruction[2], instruction[3].strip(), None
         elif target := re.fullmatch(r'\t+[0-9a-f]+: R_X86_64_(?:PLT|PC)32\t(?:\.text\.)?(.*?)-0x4', line):
-            instructions.append(('to', target[1]))
+            instructions[last] = *instructions[last][:2], target[1]
     return functions
 
 
-def frame(name, instructions):
-    """The bytes that a function has below its return address, and what it calls."""
-    size, rest = 0, list(instructions)
-    while rest[0][0] == 'push':
-        size += 8
-        rest.pop(0)
-    saved = size
-    # large frames are gone down page by page, in a row or in a loop whose end is in r11
-    while True:
-        if rest[0] == ('mov', '%rsp,%r11'):
-            size += int(re.fullmatch(r'\$0x([0-9a-f]+),%r11', rest[1][1])[1], 16)
-            loop = [instruction for instruction, _ in rest[2:6]]
-            assert loop == ['sub', 'movq', 'cmp', 'jne'] and rest[2][1] == '$0x1000,%rsp', (name, rest[:6])
-            del rest[:6]
-        elif rest[0][0] == 'sub' and rest[0][1].endswith(',%rsp'):
-            size += int(re.fullmatch(r'\$0x([0-9a-f]+),%rsp', rest[0][1])[1], 16)
-            rest.pop(0)
-        elif rest[0] == ('movq', '$0x0,(%rsp)'):
-            rest.pop(0)
-        elif size > saved and rest[0] == ('push', '%rax'):
-            size += 8  # the last eight bytes of a frame, by the shorter instruction
-            rest.pop(0)
-        else:
-            break
-    calls, below, touched = set(), 0, 0
-    for (instruction, operands), (after, target) in zip(rest, rest[1:] + [('', '')]):
-        if instruction == 'call' or instruction == 'jmp' and after == 'to':
-            assert after == 'to', (name, instruction, operands)
-            calls.add(target)
-        elif instruction == 'add' and operands.endswith(',%rsp'):
-            assert operands == f'$0x{size - saved:x},%rsp', (name, operands)
-        else:
-            assert instruction not in ('enter', 'leave') and not operands.endswith(',%rsp'), (name, instruction, operands)
+def moved(instruction, operands):
+    """By how many bytes an instruction moves the stack pointer down."""
+    if instruction in ('push', 'pop'):
+        return 8 if instruction == 'push' else -8
+    if move := re.fullmatch(r'\$0x([0-9a-f]+),%rsp', operands):
+        assert instruction in ('sub', 'add'), (instruction, operands)
+        size = int(move[1], 16)
+        size -= (size >> 63) << 64
+        return size if instruction == 'sub' else -size
+    if move := re.fullmatch(r'(-?)0x([0-9a-f]+)\(%rsp\),%rsp', operands):
+        assert instruction == 'lea', (instruction, operands)
+        return int(move[2], 16) if move[1] else -int(move[2], 16)
+    assert instruction not in ('enter', 'leave') and not operands.endswith(',%rsp'), (instruction, operands)
+    return 0
+
+
+def probed(code, at):
+    """The bytes that a loop takes which goes down step by step to an end in r11, and where it ends; (0, None) where none begins here."""
+    if code[at][:2] != ('mov', '%rsp,%r11'):
+        return 0, None
+    sub, step, touch, compare, back, behind = [it for it in sorted(code) if it > at][:6]
+    size = re.fullmatch(r'\$0x([0-9a-f]+),%r11', code[sub][1])
+    assert size and [code[it][0] for it in (sub, step, touch, compare, back)] == ['sub', 'sub', 'movq', 'cmp', 'jne'], (at, code[sub])
+    assert re.fullmatch(r'\$0x[0-9a-f]+,%rsp', code[step][1]) and code[back][1].startswith(f'{step:x} '), (code[step], code[back])
+    return int(size[1], 16), behind
+
+
+def frame(name, code):
+    """The bytes that a function has below its return address at most, and what it calls. How deep the stack is at an instruction has to
+    be the same on every way there, and 0 where the function returns or goes on to another."""
+    order, depths, calls, tables = sorted(code), {}, set(), set()
+    behind = dict(zip(order, order[1:]))
+    most = below = touched = 0
+    left = [(order[0], 0)]
+    while left:
+        at, depth = left.pop()
+        if at in depths:
+            assert depths[at] == depth, (name, hex(at), depths[at], depth)
+            continue
+        depths[at] = depth
+        instruction, operands, target = code[at]
+        size, end = probed(code, at)
+        if end is not None:
+            most = max(most, depth + size)
+            depths.update((it, depth) for it in order if at < it < end)
+            left.append((end, depth + size))
+            continue
         if place := re.search(r'-0x([0-9a-f]+)\(%rsp', operands):
-            below = max(below, int(place[1], 16))
-            touched = max(touched, below if instruction != 'lea' else 0)
-    # registers may also be saved further on, where only one way through the function needs them: each counts, as if all were saved at once
-    size += 8 * sum(instruction == 'push' for instruction, _ in rest)
+            if not operands.endswith('(%rsp),%rsp'):
+                below = max(below, int(place[1], 16))
+                touched = max(touched, below if instruction != 'lea' else 0)
+        if instruction == 'ret' or instruction == 'ud2':
+            assert instruction == 'ud2' or depth == 0, (name, hex(at), depth)
+        elif instruction.startswith('j') and target is not None:
+            assert depth == 0, (name, hex(at), depth)
+            calls.add(target)
+            left += [(behind[at], depth)] * (instruction != 'jmp')
+        elif instruction == 'jmp' and operands.startswith('*'):
+            tables.add(depth)
+        elif instruction.startswith('j'):
+            left.append((int(operands.split()[0], 16), depth))
+            left += [(behind[at], depth)] * (instruction != 'jmp')
+        else:
+            if instruction == 'call':
+                assert target is not None, (name, hex(at), operands)
+                calls.add(target)
+            depth += moved(instruction, operands)
+            most = max(most, depth)
+            assert depth >= 0, (name, hex(at))
+            left.append((behind[at], depth))
+        if not left:
+            # what is not reached yet is where a table of jumps leads, or fills up behind a jump
+            rest = [it for it in order if it not in depths and not re.match(r'nop|xchg|int3|data16|cs$', code[it][0])]
+            assert not rest or len(tables) == 1, (name, hex(rest[0]), tables)
+            left += [(it, depth) for it in rest[:1] for depth in tables]
     # a function that calls none may use 128 bytes below its stack pointer; in others only addresses are computed from there
     assert below <= 128 and not (touched and calls), (name, below, calls)
-    return size + (0 if calls else below), calls
+    return most + (0 if calls else below), calls
 
 
 def bounds():

@@ -11,29 +11,32 @@ set -euo pipefail
 cd "$(dirname "$0")/.."
 targets='rule take sheet judge check step run circuit'
 made=$PWD/target/fuzz
-kit=${RATTLE_HOME:-$(dirname "$(dirname "$(readlink -f "$(command -v rt)")")")}
-own=on/$(uname -m)
-kit_clang=$kit/$own/toolchain/bin/clang
+kit=$(dirname "$(rt doc)")
+kit_clang=$kit/toolchain/bin/clang
+archive=crates/citronhelm/out/libcitronhelm.a
 rust_part=$made/cargo/x86_64-unknown-linux-gnu/release/libfuzz.a
 export ASAN_OPTIONS=malloc_context_size=0:quarantine_size_mb=16
 
-# The kit with one thing changed: its clang also keeps the LLVM module that it is given. The library is built as ever.
+# keeping_kit FOLDER: the kit with one thing changed: its clang also keeps the LLVM module that it is given, and the flags. The library is
+# built as ever. The copy is made of links, but for rt, which takes for the kit what lies around it; it stands outside the repository, where
+# `rt ci` wants none.
 keeping_kit() {
-    local copy=$made/kit
-    rm -rf "$copy"
-    mkdir -p "$copy/$own/toolchain/bin"
-    for part in "$kit"/*; do [ "${part##*/}" = on ] || ln -s "$part" "$copy/"; done
-    for part in "$kit/$own"/*; do [ "${part##*/}" = toolchain ] || ln -s "$part" "$copy/$own/"; done
-    ln -s "$kit/$own/toolchain/lib" "$copy/$own/toolchain/"
-    ln -s "$kit/$own/toolchain/bin/ld.lld" "$kit/$own/toolchain/bin/llvm-ar" "$copy/$own/toolchain/bin/"
-    printf '#!/bin/sh\ncp module.bc "%s/library.bc"\nexec "%s" "$@"\n' "$made" "$kit_clang" >"$copy/$own/toolchain/bin/clang"
-    chmod +x "$copy/$own/toolchain/bin/clang"
+    mkdir -p "$1/bin" "$1/toolchain/bin"
+    for part in "$kit"/*; do [[ ${part##*/} =~ ^(bin|toolchain)$ ]] || ln -s "$part" "$1/"; done
+    for part in "$kit"/bin/*; do [[ ${part##*/} =~ ^rt(lib.py)?$ ]] || ln -s "$part" "$1/bin/"; done
+    cp "$kit/bin/rt" "$kit/bin/rtlib.py" "$1/bin/"
+    for part in "$kit"/toolchain/*; do [ "${part##*/}" = bin ] || ln -s "$part" "$1/toolchain/"; done
+    for part in "$kit"/toolchain/bin/*; do [ "${part##*/}" = clang ] || ln -s "$part" "$1/toolchain/bin/"; done
+    printf '#!/bin/sh\ncp module.bc "%s/library.bc"\nprintf "%%s\\n" "$@" >"%s/library.flags"\nexec "%s" "$@"\n' \
+        "$made" "$made" "$kit_clang" >"$1/toolchain/bin/clang"
+    chmod +x "$1/toolchain/bin/clang"
 }
 
-# compile MODULE OBJECT: with a counter for each edge and every access to memory checked.
+# compile MODULE OBJECT: as the kit does, but with a counter for each edge and every access to memory checked.
 compile() {
-    "$kit_clang" --target=x86_64-unknown-linux-gnu -fPIC -O3 -c -x ir "$1" -o "$2" \
-        -fsanitize=address -fsanitize-coverage=inline-8bit-counters,pc-table
+    local as_the_kit
+    mapfile -t as_the_kit < <(grep -vxE -e '-c|-x|ir|-o|module\.(bc|o)|--sysroot=.*' "$made/library.flags")
+    "$kit_clang" "${as_the_kit[@]}" -c -x ir "$1" -o "$2" -fsanitize=address -fsanitize-coverage=inline-8bit-counters,pc-table
 }
 
 # link OBJECT FOLDER: the library's object with the targets. They are one program, which looks at the name it is called by.
@@ -45,12 +48,18 @@ link() {
 
 # The proved library once more from its module.
 library() {
-    if [ -e "$made/library.o" ] && [ -e target/staticlib/libcitronhelm.a ] &&
-        [ -z "$(find crates -name '*.rt' -newer "$made/library.o" -print -quit)" ]; then return; fi
-    keeping_kit
-    RATTLE_HOME=$made/kit rt staticlib citronhelm >"$made/library.log" 2>&1 || { cat "$made/library.log" >&2; exit 1; }
+    if [ -e "$made/library.o" ] && [ -e "$archive" ] &&
+        [ -z "$(find crates/*/src -name '*.rt' -newer "$made/library.o" -print -quit)" ]; then return; fi
+    local copy failed=
+    copy=$(mktemp -d)
+    keeping_kit "$copy/kit"
+    (cd crates/citronhelm && rt lib && "$copy/kit/bin/rt" lib) >"$made/library.log" 2>&1 || failed=1
+    rm -rf "$copy"
+    [ -z "$failed" ] || { cat "$made/library.log" >&2; exit 1; }
     "$kit_clang" -S -emit-llvm -x ir "$made/library.bc" -o "$made/library.ll"
-    sed -i 's/^attributes #0 = {/& sanitize_address/' "$made/library.ll"
+    for group in $(sed -nE 's/^define .* (#[0-9]+) .*\{$/\1/p' "$made/library.ll" | sort -u); do
+        sed -i "s/^attributes $group = {/& sanitize_address/" "$made/library.ll"
+    done
     compile "$made/library.ll" "$made/library.o"
 }
 
@@ -62,7 +71,7 @@ build() {
     (cd fuzz && RUSTFLAGS=$flags cargo build --quiet --offline --locked --release --target x86_64-unknown-linux-gnu \
         --target-dir "$made/cargo")
     link "$made/library.o" "$made/bin"
-    link target/staticlib/libcitronhelm.a "$made/plain"
+    link "$archive" "$made/plain"
     rm -rf "$made/seeds" && fuzz/seeds.py "$made/seeds"
 }
 
