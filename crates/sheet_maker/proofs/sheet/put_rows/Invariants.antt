@@ -1,0 +1,20 @@
+use Prim.Native.Nat.{◌+◌, ◌-◌, ◌≤◌}
+use mathlib.Core.Path.{◌≡◌, sym, ap, ◌∙◌}
+use mathlib.Core.List.{[]}
+use native.Mathlib.Omega.{arith}
+use lib.ListN.{take, length-map}
+use Rattle.text.specs.Written.{digits_text, written_body}
+use Rattle.sheet_file.specs.Written.{rows_of}
+use Rattle.writing.specs.Lent.{Wrote}
+use Rattle.writing.proofs.Texts.{wrote_none, wrote_both, wrote_is}
+use Rattle.sheet_maker.specs.Length.{rows_length}
+use Rattle.sheet_maker.proofs.Texts.{rows_next, rows_all}
+use Rattle.sheet_maker.proofs.Lengths.{rows_length_next, rows_length_before}
+use borrow.Author.Rules.{rules}
+use Rattle.sheet_maker.proofs.sheet.put_rows.Given as goal
+
+abbrev pub invariant-loop-k : goal.invariant-loop-k
+invariant-loop-k l = (l.k ≤ l.sheet.rows) × (l.i ≡ l.at + rows_length l.sheet.cycles l.k) × Wrote l.initial.buf l.at (written_body 122 digits_text 1 (take l.k (rows_of l.sheet))) l.buf l.i
+
+abbrev pub decreases-loop-k : goal.decreases-loop-k
+decreases-loop-k l = l.sheet.rows - l.k

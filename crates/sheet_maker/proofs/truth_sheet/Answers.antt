@@ -1,0 +1,8 @@
+use mathlib.Core.Path.{refl, sym, ◌∙◌}
+use lib.ListN.{length-map}
+use Rattle.sheet_maker.proofs.Sheets.{filled_made}
+use borrow.Author.Rules.{rules}
+use Rattle.sheet_maker.proofs.truth_sheet.Goals as goal
+
+pub returns : goal.returns
+returns c = record { made = filled_made c.args.form c.args.trace _ c.requires.1.most_cycles (sym (length-map c.fill-truth.result.lanes _) ∙ c.fill-truth.type-inv.1.1.0.1.0.1) refl refl c.fill-truth.ensures.filled }
