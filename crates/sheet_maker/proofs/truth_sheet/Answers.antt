@@ -5,4 +5,4 @@ use borrow.Author.Rules.{rules}
 use Rattle.sheet_maker.proofs.truth_sheet.Goals as goal
 
 pub returns : goal.returns
-returns c = record { made = filled_made c.args.form c.args.trace _ c.requires.1.most_cycles (sym (length-map c.fill-truth.result.lanes _) ∙ c.fill-truth.type-inv.1.1.0.1.0.1) refl refl c.fill-truth.ensures.filled }
+returns c = record { made = filled_made c.args.form c.args.trace _ c.requires.1.most_cycles (search rules) refl refl c.fill-truth.ensures.filled }
