@@ -1,0 +1,35 @@
+use Rattle.tables.proofs.Choices.{know}
+use Rattle.meeting.specs.declared.Wanted.TheVariants.{Either}
+use Rattle.meeting.proofs.Covered.{have_met, met_form, met_range, met_covers}
+use Rattle.sheet_maker.proofs.Sheets.{rows_met, cycles_met}
+use Rattle.sheet_length.proofs.Answers.{refused_measures, sheet_measures, none_measures}
+use borrow.Author.Rules.{rules}
+use Rattle.sheet_length.proofs.measure_met.Goals as goal
+
+pub truth_sheet-sheet-requires : goal.truth_sheet-sheet-requires
+truth_sheet-sheet-requires c =
+    let met = have_met Either c.args.formula c.args.trace c.requires (c.meet-met.ensures.outcome, (c.meet-met.ensures.form, c.meet-met.ensures.covered)) c.in-Accepted.is in
+    (met_form met, met_range met, met_covers met)
+
+pub sets_root-requires : goal.sets_root-requires
+sets_root-requires c =
+    rows_met (have_met Either c.args.formula c.args.trace c.requires (c.meet-met.ensures.outcome, (c.meet-met.ensures.form, c.meet-met.ensures.covered)) c.in-Accepted.is)
+    c.truth_sheet-sheet.ensures.made
+
+pub sheet_length-requires : goal.sheet_length-requires
+sheet_length-requires c =
+    let met = have_met Either c.args.formula c.args.trace c.requires (c.meet-met.ensures.outcome, (c.meet-met.ensures.form, c.meet-met.ensures.covered)) c.in-Accepted.is in
+    ((rows_met met c.truth_sheet-sheet.ensures.made).1, cycles_met met c.truth_sheet-sheet.ensures.made)
+
+pub returns-in-Refused : goal.returns-in-Refused
+returns-in-Refused c = record { measures = refused_measures _ c.args.formula c.args.trace (λ e. c.requires.0) (know c.meet-met.ensures.outcome c.in-Refused.is) }
+
+pub returns-then-sets_root : goal.returns-then-sets_root
+returns-then-sets_root c = record { measures = let met = have_met Either c.args.formula c.args.trace c.requires (c.meet-met.ensures.outcome, (c.meet-met.ensures.form, c.meet-met.ensures.covered)) c.in-Accepted.is in
+    sheet_measures _ c.args.formula c.args.trace (λ e. c.requires.0) met c.truth_sheet-sheet.ensures.made (know c.meet-met.ensures.outcome c.in-Accepted.is)
+    c.sets_root.ensures.root c.if-sets_root.true c.sheet_length.ensures.length }
+
+pub returns-else-sets_root : goal.returns-else-sets_root
+returns-else-sets_root c = record { measures = let met = have_met Either c.args.formula c.args.trace c.requires (c.meet-met.ensures.outcome, (c.meet-met.ensures.form, c.meet-met.ensures.covered)) c.in-Accepted.is in
+    none_measures _ c.args.formula c.args.trace (λ e. c.requires.0) met c.truth_sheet-sheet.ensures.made (know c.meet-met.ensures.outcome c.in-Accepted.is)
+    c.sets_root.ensures.root c.if-sets_root.false }
