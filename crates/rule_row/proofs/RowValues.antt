@@ -1,23 +1,21 @@
 -- Laws of a row's value, as the code finds it. Assumes nothing.
 use mathlib.Core.Path.{◌≡◌, refl, ap, ap₂}
-use mathlib.Core.Bool.{Bool, true, false}
+use mathlib.Core.Bool.{true, false}
 use mathlib.Core.List.{List}
 use Prim.Native.Nat.{ℕ, ◌%◌, ◌≤◌, ◌<◌}
 use native.Mathlib.Nat.{mod-eq_of_lt}
 use native.Mathlib.Omega.{arith}
-use lib.Dec.{leb, ltb, eqb}
-use borrow.Author.Tests.{leb-true, ltb-true, eq-eqb, ne_eqb}
-use Rattle.tables.specs.Choice.{pick}
-use Rattle.tables.specs.Kind.{kind_at, with_numbers, numbers_in, first_number, second_number}
+use borrow.Author.Tests.{eq-eqb, ne_eqb}
+use Rattle.tables.specs.Kind.{kind_at, with_numbers, numbers_in}
 use Rattle.tables.specs.declared.refusal.Reason.{Reason}
 use Rattle.tables.specs.declared.refusal.Reason.TheVariants.{WrongForm, BadReference}
 use Rattle.tables.specs.declared.row.Row.{Row}
 use Rattle.tables.specs.declared.row.Row.TheVariants.{Constant, Signal, Unary, Binary}
 use Rattle.text.specs.Result.Parsed.{good, bad}
 use Rattle.text.specs.declared.search.Found.TheVariants.{At, Nothing}
-use Rattle.tables.proofs.Choices.{clash, pick_both}
+use Rattle.tables.proofs.Choices.{pick_both}
 use Rattle.rule_row.proofs.Laws.{signal_most, operand_below}
-use Rattle.rule_row.specs.Row.{kind_named, form_of, row_form, is_signal, is_operand, in_range, row_value}
+use Rattle.rule_row.specs.Row.{kind_named, form_of, row_form, is_operand, in_range, row_value}
 
 -- a word by its kind
 module _ (word : List ℕ) (count a b : ℕ) where

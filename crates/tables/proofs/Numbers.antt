@@ -1,5 +1,5 @@
 -- The numbers of the reasons tell them apart, and each reason is the one that its number names. Assumes nothing.
-use Prim.Native.Nat.{ℕ, ◌≤◌}
+use Prim.Native.Nat.{◌≤◌}
 use mathlib.Core.Path.{◌≡◌, refl, sym, ap, ◌∙◌}
 use native.Mathlib.Omega.{arith}
 use Rattle.tables.specs.Refusal.{number, numbered}

@@ -1,6 +1,6 @@
 -- Delivery, in place and from a text that is ready, and that what is printed is fixed where its text is. Assumes nothing.
 use Prim.Native.Nat.{ℕ, ◌+◌, ◌≤◌, ◌<◌}
-use mathlib.Core.Path.{◌≡◌, refl, sym, ap, subst, subst⁻¹, ◌∙◌}
+use mathlib.Core.Path.{◌≡◌, refl, sym, subst, subst⁻¹, ◌∙◌}
 use mathlib.Core.List.{List}
 use native.Mathlib.Omega.{arith}
 use lib.ListN.{length}
@@ -11,8 +11,8 @@ use Rattle.tables.specs.declared.refusal.Outcome.TheVariants.{Accepted, Refused 
 use Rattle.tables.specs.declared.refusal.Refusal.{Refusal}
 use Rattle.writing.specs.declared.answer.Bytes.{Bytes}
 use Rattle.writing.specs.declared.answer.Bytes.TheVariants.{Count, Refused}
-use Rattle.writing.specs.Answer.{too_short, written_answer, Delivers, Printed}
-use Rattle.writing.specs.Lent.{Wrote, overlaid}
+use Rattle.writing.specs.Answer.{too_short, Delivers, Printed}
+use Rattle.writing.specs.Lent.{Wrote}
 use Rattle.writing.specs.Refusal.{refusal_text, Told}
 use Rattle.writing.proofs.Texts.{overlaid_all, overlaid_none}
 

@@ -1,6 +1,5 @@
 use mathlib.Core.Path.{sym, ap}
 use Rattle.answer_code.specs.Code.{finding_code}
-use borrow.Author.Rules.{rules}
 use Rattle.answer_code.proofs.finding_code.Goals as goal
 
 pub returns-in-Failed : goal.returns-in-Failed

@@ -1,6 +1,5 @@
 use mathlib.Core.Path.{sym, ap, ◌∙◌}
 use Rattle.answer_code.specs.Code.{maker_code}
-use borrow.Author.Rules.{rules}
 use Rattle.answer_code.proofs.maker_code.Goals as goal
 
 pub returns-in-Refused : goal.returns-in-Refused

@@ -1,7 +1,6 @@
 use Prim.Native.Nat.{◌≤◌}
 use mathlib.Core.Path.{subst}
 use Rattle.meaning.specs.Rows.{Each}
-use borrow.Author.Rules.{rules}
 use Rattle.between_rounds.proofs.operands_same.Goals as goal
 
 pub same_at-requires : goal.same_at-requires

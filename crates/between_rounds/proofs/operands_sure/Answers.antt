@@ -1,6 +1,5 @@
 use Prim.Native.Nat.{◌≤◌}
 use mathlib.Core.Path.{subst}
-use borrow.Author.Rules.{rules}
 use Rattle.meaning.specs.Rows.{Each}
 use Rattle.between_rounds.proofs.operands_sure.Goals as goal
 

@@ -8,8 +8,8 @@ use Rattle.tables.specs.declared.row.NormalForm.{NormalForm}
 use Rattle.meaning.specs.Pattern.{pattern_of}
 use Rattle.meaning.specs.Satisfaction.{table_of}
 use Rattle.normal_form.proofs.FormTables.{row_operands}
-use Rattle.between_rounds.specs.Between.{sure_in, handed}
-use Rattle.between_rounds.proofs.Rows.{HandedTo, handed_none, handed_more}
+use Rattle.between_rounds.specs.Between.{handed}
+use Rattle.between_rounds.proofs.Rows.{handed_none, handed_more}
 use Rattle.between_rounds.proofs.restart.Goals as goal
 
 pub loop-k-init : goal.loop-k-init

@@ -1,15 +1,7 @@
-use Prim.Native.Nat.{ℕ, suc, ◌+◌, ◌-◌, ◌<◌}
-use mathlib.Core.Bool.{false}
-use mathlib.Core.Path.{◌≡◌, ap, ap₂, ◌∙◌}
-use native.Mathlib.Omega.{arith}
-use lib.ListN.{get_or}
-use borrow.Author.Rules.{rules}
-use Rattle.tables.specs.declared.row.NormalForm.{NormalForm}
-use Rattle.meaning.specs.Pattern.{pattern_of}
+use Prim.Native.Nat.{◌-◌}
 use Rattle.meaning.specs.Satisfaction.{table_of}
-use Rattle.normal_form.proofs.FormTables.{row_operands}
-use Rattle.between_rounds.specs.Between.{sure_in, handed}
-use Rattle.between_rounds.proofs.Rows.{HandedTo, handed_none, handed_more}
+use Rattle.between_rounds.specs.Between.{sure_in}
+use Rattle.between_rounds.proofs.Rows.{HandedTo}
 use Rattle.between_rounds.proofs.restart.Given as goal
 
 abbrev pub invariant-loop-k : goal.invariant-loop-k

@@ -1,4 +1,3 @@
-use borrow.Author.Rules.{rules}
 use Rattle.between_rounds.proofs.row_handed.Goals as goal
 
 pub returns-in-Now : goal.returns-in-Now

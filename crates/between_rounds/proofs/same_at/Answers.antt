@@ -1,6 +1,5 @@
 use mathlib.Core.Path.{◌≡◌, refl}
 use mathlib.Core.Bool.{Bool, true, false, not}
-use borrow.Author.Rules.{rules}
 use Rattle.cycle_rows.specs.Cells.{row_cell}
 use Rattle.between_rounds.specs.Between.{same_bit}
 use Rattle.between_rounds.proofs.same_at.Goals as goal

@@ -7,11 +7,10 @@ use Rattle.tables.specs.declared.row.NormalForm.{NormalForm}
 use Rattle.tables.specs.declared.row.Row.{Row}
 use Rattle.meaning.specs.Satisfaction.{table_of}
 use Rattle.meaning.specs.Pattern.{pattern_of}
-use Rattle.normal_form.specs.Form.{InNormalForm}
 use Rattle.normal_form.proofs.FormTables.{row_operands}
 use Rattle.cycle_rows.specs.Cells.{row_cell}
 use Rattle.between_rounds.specs.Between.{same_in, stays}
-use Rattle.between_rounds.proofs.Rows.{SurveyedTo, survey_none, survey_more}
+use Rattle.between_rounds.proofs.Rows.{survey_none, survey_more}
 use Rattle.between_rounds.proofs.survey.Goals as goal
 
 pub loop-k-init : goal.loop-k-init

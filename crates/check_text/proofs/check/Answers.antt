@@ -1,4 +1,3 @@
-use borrow.Author.Rules.{rules}
 use Rattle.check_text.proofs.check.Goals as goal
 
 pub returns : goal.returns

@@ -9,7 +9,6 @@ use Rattle.checking.proofs.Answers.{told_refused as answer-refused, told_checked
 use Rattle.writing.proofs.Answers.{told_refused, told_accepted}
 use Rattle.check_text.specs.Answer.{IsFindingText}
 use Rattle.check_text.proofs.Answers.{finding_cycle}
-use borrow.Author.Rules.{rules}
 use Rattle.check_text.proofs.check_met.Goals as goal
 
 pub deliver_refusal-requires : goal.deliver_refusal-requires
@@ -27,8 +26,10 @@ deliver_finding-requires c =
     finding_cycle _ (covered_take c.args.formula c.args.trace) c.args.activation range _ x.1
 
 pub returns-in-Refused : goal.returns-in-Refused
-returns-in-Refused c = record { prints = told_refused _ (IsFindingText c.args.formula c.args.trace c.args.activation) (answer-refused c.args.formula c.args.trace c.args.activation
-    (met_outcome c.args.formula c.args.trace c.args.activation) c.check_met-answer.ensures.answer.so c.in-Refused.is) c.deliver_refusal.ensures.delivers }
+returns-in-Refused c = record {
+  prints = told_refused _ (IsFindingText c.args.formula c.args.trace c.args.activation) (answer-refused c.args.formula c.args.trace c.args.activation
+      (met_outcome c.args.formula c.args.trace c.args.activation) c.check_met-answer.ensures.answer.so c.in-Refused.is) c.deliver_refusal.ensures.delivers;
+}
 
 pub returns-in-Checked : goal.returns-in-Checked
 returns-in-Checked c = record { prints = let x = told_checked c.args.formula c.args.trace c.args.activation (met_outcome c.args.formula c.args.trace c.args.activation) c.check_met-answer.ensures.answer.so c.in-Checked.is in told_accepted _ (IsFindingText c.args.formula c.args.trace c.args.activation) _ x.0 (_, x.1, refl) c.deliver_finding.ensures.delivers }

@@ -3,7 +3,6 @@ use native.Mathlib.Omega.{arith}
 use Rattle.sheet_file.specs.Sheet.{parse_sheet}
 use Rattle.sheet_file.proofs.Sheets.{sheet_outcome_line, sheet_said, sheet_is_lem}
 use Rattle.rule_and_take.proofs.Files.{file_refused, file_read}
-use borrow.Author.Rules.{rules}
 use Rattle.check_text.proofs.check_third.Goals as goal
 
 pub deliver_refusal-requires : goal.deliver_refusal-requires
@@ -14,17 +13,21 @@ deliver_refusal-requires c =
     )
 
 pub returns-in-Refused : goal.returns-in-Refused
-returns-in-Refused c = record { prints = λ sheet d. record {
-      text = _;
-      is_text = file_refused 3 (parse_sheet sheet) _ _ (sheet_said (parse_sheet sheet) c.args.third d c.in-Refused.is)
-          refl;
-      delivered = c.deliver_refusal.ensures.delivers;
-    } }
+returns-in-Refused c = record {
+  prints = λ sheet d. record {
+    text = _;
+    is_text = file_refused 3 (parse_sheet sheet) _ _ (sheet_said (parse_sheet sheet) c.args.third d c.in-Refused.is)
+        refl;
+    delivered = c.deliver_refusal.ensures.delivers;
+  };
+}
 
 pub returns-in-Accepted : goal.returns-in-Accepted
-returns-in-Accepted c = record { prints = λ sheet d. record {
-      text = c.check_met.ensures.prints.text;
-      is_text = file_read 3 (parse_sheet sheet) _ _ (sheet_is_lem
-          (parse_sheet sheet) c.args.third d c.in-Accepted.is) c.check_met.ensures.prints.is_text;
-      delivered = c.check_met.ensures.prints.delivered;
-    } }
+returns-in-Accepted c = record {
+  prints = λ sheet d. record {
+    text = c.check_met.ensures.prints.text;
+    is_text = file_read 3 (parse_sheet sheet) _ _ (sheet_is_lem
+        (parse_sheet sheet) c.args.third d c.in-Accepted.is) c.check_met.ensures.prints.is_text;
+    delivered = c.check_met.ensures.prints.delivered;
+  };
+}

@@ -10,7 +10,6 @@ use Rattle.meeting.specs.declared.Wanted.TheVariants.{Either}
 use Rattle.meeting.proofs.Covered.{have_met, met_form, met_range}
 use Rattle.checking.specs.Finding.{FindingOf}
 use Rattle.checking.proofs.Answers.{met_sizes, refused_answer, found_answer}
-use borrow.Author.Rules.{rules}
 use Rattle.checking.proofs.check_met.Goals as goal
 
 pub find-found-requires : goal.find-found-requires
@@ -19,15 +18,19 @@ find-found-requires c =
     (met_form met, met_range met)
 
 pub returns-in-Refused : goal.returns-in-Refused
-returns-in-Refused c = record { answer = let sizes = met_sizes c.args.formula c.args.trace c.args.sheet _ _ _ (λ e. c.meet-met.ensures.form (c.meet-met.ensures.outcome ∙ e)) (λ e. c.meet-met.ensures.covered (c.meet-met.ensures.outcome ∙ e)) in
-    refused_answer c.args.formula c.args.trace c.args.sheet _
-    (know (c.first_refusal-outcome.ensures.outcome ∙ ap₂ and_then c.meet-met.ensures.outcome c.check_sizes-sizes.ensures.outcome ∙ sizes) c.in-Refused.is) }
+returns-in-Refused c = record {
+  answer = let sizes = met_sizes c.args.formula c.args.trace c.args.sheet _ _ _ (λ e. c.meet-met.ensures.form (c.meet-met.ensures.outcome ∙ e)) (λ e. c.meet-met.ensures.covered (c.meet-met.ensures.outcome ∙ e)) in
+      refused_answer c.args.formula c.args.trace c.args.sheet _
+      (know (c.first_refusal-outcome.ensures.outcome ∙ ap₂ and_then c.meet-met.ensures.outcome c.check_sizes-sizes.ensures.outcome ∙ sizes) c.in-Refused.is);
+}
 
 pub returns-in-Accepted : goal.returns-in-Accepted
-returns-in-Accepted c = record { answer = let e = (both_accept _ _ (sym c.first_refusal-outcome.ensures.outcome ∙ c.in-Accepted.is)).0 in
-    let sizes = met_sizes c.args.formula c.args.trace c.args.sheet _ _ _ (λ e. c.meet-met.ensures.form (c.meet-met.ensures.outcome ∙ e)) (λ e. c.meet-met.ensures.covered (c.meet-met.ensures.outcome ∙ e)) in
-    found_answer c.args.formula c.args.trace c.args.sheet _
-    (know (c.first_refusal-outcome.ensures.outcome ∙ ap₂ and_then c.meet-met.ensures.outcome c.check_sizes-sizes.ensures.outcome ∙ sizes) c.in-Accepted.is)
-    c.find-found.result
-    (subst (λ (u : Trace). FindingOf (normal_form c.args.formula Plain) u c.args.sheet c.find-found.result) (c.meet-met.ensures.covered e)
-    (subst (λ (g : NormalForm). FindingOf g c.meet-met.result.covered c.args.sheet c.find-found.result) (c.meet-met.ensures.form e) c.find-found.ensures.finding)) }
+returns-in-Accepted c = record {
+  answer = let e = (both_accept _ _ (sym c.first_refusal-outcome.ensures.outcome ∙ c.in-Accepted.is)).0 in
+      let sizes = met_sizes c.args.formula c.args.trace c.args.sheet _ _ _ (λ e. c.meet-met.ensures.form (c.meet-met.ensures.outcome ∙ e)) (λ e. c.meet-met.ensures.covered (c.meet-met.ensures.outcome ∙ e)) in
+      found_answer c.args.formula c.args.trace c.args.sheet _
+      (know (c.first_refusal-outcome.ensures.outcome ∙ ap₂ and_then c.meet-met.ensures.outcome c.check_sizes-sizes.ensures.outcome ∙ sizes) c.in-Accepted.is)
+      c.find-found.result
+      (subst (λ (u : Trace). FindingOf (normal_form c.args.formula Plain) u c.args.sheet c.find-found.result) (c.meet-met.ensures.covered e)
+      (subst (λ (g : NormalForm). FindingOf g c.meet-met.result.covered c.args.sheet c.find-found.result) (c.meet-met.ensures.form e) c.find-found.ensures.finding));
+}

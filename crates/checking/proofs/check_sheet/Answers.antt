@@ -3,7 +3,6 @@ use Rattle.tables.specs.Refusal.{and_then}
 use Rattle.checking.specs.Answer.{met_outcome}
 use Rattle.tables.proofs.Choices.{know}
 use Rattle.checking.proofs.Answers.{refused_answer, met_answer}
-use borrow.Author.Rules.{rules}
 use Rattle.checking.proofs.check_sheet.Goals as goal
 
 pub check_met-requires : goal.check_met-requires

@@ -1,7 +1,6 @@
 use mathlib.Core.Path.{◌∙◌}
 use Rattle.tables.specs.declared.refusal.Reason.TheVariants.{SizeDiffers}
 use Rattle.tables.proofs.Outcomes.{passes, fails}
-use borrow.Author.Rules.{rules}
 use Rattle.checking.proofs.check_sizes.Goals as goal
 
 pub returns-then-sheet-form : goal.returns-then-sheet-form

@@ -1,7 +1,6 @@
 use Rattle.rule_file.specs.Rule.{parse_rule}
 use Rattle.rule_file.proofs.Rules.{rule_said, rule_is}
 use Rattle.rule_and_take.proofs.Files.{file_refused, file_read}
-use borrow.Author.Rules.{rules}
 use Rattle.citronhelm.proofs.citronhelm_bound.Goals as goal
 
 pub returns-in-Refused : goal.returns-in-Refused

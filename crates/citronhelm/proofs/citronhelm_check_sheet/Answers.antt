@@ -3,7 +3,6 @@ use Rattle.take_file.specs.Take.{parse_take}
 use Rattle.sheet_file.specs.Sheet.{parse_sheet}
 use Rattle.sheet_file.proofs.Sheets.{sheet_said, sheet_is_lem}
 use Rattle.rule_and_take.proofs.Files.{file_refused, file_read, pair_refused, pair_read_lem, pair_range}
-use borrow.Author.Rules.{rules}
 use Rattle.citronhelm.proofs.citronhelm_check_sheet.Goals as goal
 
 pub check_met-requires : goal.check_met-requires

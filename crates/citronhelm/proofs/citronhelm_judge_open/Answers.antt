@@ -1,7 +1,6 @@
 use Rattle.rule_file.specs.Rule.{parse_rule}
 use Rattle.take_file.specs.Take.{parse_take}
 use Rattle.rule_and_take.proofs.Files.{pair_refused, pair_read_lem, pair_range}
-use borrow.Author.Rules.{rules}
 use Rattle.citronhelm.proofs.citronhelm_judge_open.Goals as goal
 
 pub judge_met-requires : goal.judge_met-requires

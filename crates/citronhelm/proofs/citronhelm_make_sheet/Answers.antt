@@ -2,7 +2,6 @@ use mathlib.Core.Path.{refl}
 use Rattle.rule_file.specs.Rule.{parse_rule}
 use Rattle.take_file.specs.Take.{parse_take}
 use Rattle.rule_and_take.proofs.Files.{pair_refused, pair_read_lem, pair_range}
-use borrow.Author.Rules.{rules}
 use Rattle.citronhelm.proofs.citronhelm_make_sheet.Goals as goal
 
 pub make_met-requires : goal.make_met-requires
@@ -13,5 +12,7 @@ pub returns-in-Refused : goal.returns-in-Refused
 returns-in-Refused c = record { answer = pair_refused (parse_rule c.args.rule.now) (parse_take c.args.take.now) c.read_pair-pair.result c.read_pair-pair.ensures.answer _ _ c.in-Refused.is (c.refusal_code.ensures.answer, refl) }
 
 pub returns-in-Accepted : goal.returns-in-Accepted
-returns-in-Accepted c = record { answer = pair_read_lem (parse_rule c.args.rule.now) (parse_take c.args.take.now) c.read_pair-pair.result c.read_pair-pair.ensures.answer _ _ c.in-Accepted.is (record
-    { answer = _; makes = c.make_met.ensures.makes; coded = c.maker_code.ensures.answer }) }
+returns-in-Accepted c = record {
+  answer = pair_read_lem (parse_rule c.args.rule.now) (parse_take c.args.take.now) c.read_pair-pair.result c.read_pair-pair.ensures.answer _ _ c.in-Accepted.is (record
+      { answer = _; makes = c.make_met.ensures.makes; coded = c.maker_code.ensures.answer });
+}

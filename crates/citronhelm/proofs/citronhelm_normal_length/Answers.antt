@@ -1,7 +1,6 @@
 use Rattle.rule_file.specs.Rule.{parse_rule}
 use Rattle.rule_file.proofs.Rules.{rule_said, rule_is, rule_valid}
 use Rattle.rule_and_take.proofs.Files.{file_refused, file_read}
-use borrow.Author.Rules.{rules}
 use Rattle.citronhelm.proofs.citronhelm_normal_length.Goals as goal
 
 pub measure_form-requires : goal.measure_form-requires
@@ -10,10 +9,14 @@ measure_form-requires c =
     (rule_valid _ _ (rule_is p c.read_rule-read.result c.read_rule-read.ensures.answer c.in-Accepted.is)).in_range_lem
 
 pub returns-in-Refused : goal.returns-in-Refused
-returns-in-Refused c = record { answer = let p = parse_rule c.args.rule.now in
-    file_refused 1 p _ _ (rule_said p c.read_rule-read.result c.read_rule-read.ensures.answer c.in-Refused.is) c.refusal_code.ensures.answer }
+returns-in-Refused c = record {
+  answer = let p = parse_rule c.args.rule.now in
+      file_refused 1 p _ _ (rule_said p c.read_rule-read.result c.read_rule-read.ensures.answer c.in-Refused.is) c.refusal_code.ensures.answer;
+}
 
 pub returns-in-Accepted : goal.returns-in-Accepted
-returns-in-Accepted c = record { answer = let p = parse_rule c.args.rule.now in
-    let is_read = rule_is p c.read_rule-read.result c.read_rule-read.ensures.answer c.in-Accepted.is in
-    file_read 1 p _ _ is_read (rw (← c.sign_named-sign.ensures.answer) c.measure_form.ensures.length) }
+returns-in-Accepted c = record {
+  answer = let p = parse_rule c.args.rule.now in
+      let is_read = rule_is p c.read_rule-read.result c.read_rule-read.ensures.answer c.in-Accepted.is in
+      file_read 1 p _ _ is_read (rw (← c.sign_named-sign.ensures.answer) c.measure_form.ensures.length);
+}

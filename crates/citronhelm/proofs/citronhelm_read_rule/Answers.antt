@@ -1,7 +1,6 @@
 use mathlib.Core.Path.{ap, ◌∙◌}
 use Rattle.rule_file.specs.declared.rule.RuleAnswer.{RuleAnswer}
 use Rattle.answer_code.specs.Code.{outcome_code}
-use borrow.Author.Rules.{rules}
 use Rattle.citronhelm.proofs.citronhelm_read_rule.Goals as goal
 
 pub returns : goal.returns

@@ -1,7 +1,6 @@
 use mathlib.Core.Path.{ap, ◌∙◌}
 use Rattle.sheet_file.specs.declared.sheet.SheetAnswer.{SheetAnswer}
 use Rattle.answer_code.specs.Code.{outcome_code}
-use borrow.Author.Rules.{rules}
 use Rattle.citronhelm.proofs.citronhelm_read_sheet.Goals as goal
 
 pub returns : goal.returns

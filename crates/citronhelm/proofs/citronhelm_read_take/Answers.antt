@@ -1,7 +1,6 @@
 use mathlib.Core.Path.{ap, ◌∙◌}
 use Rattle.take_file.specs.declared.take.TakeAnswer.{TakeAnswer}
 use Rattle.answer_code.specs.Code.{outcome_code}
-use borrow.Author.Rules.{rules}
 use Rattle.citronhelm.proofs.citronhelm_read_take.Goals as goal
 
 pub returns : goal.returns

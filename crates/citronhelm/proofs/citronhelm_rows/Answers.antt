@@ -3,7 +3,6 @@ use Rattle.rule_file.specs.Rule.{parse_rule}
 use Rattle.rule_file.proofs.Rules.{rule_valid, rule_said, rule_is}
 use Rattle.tables.specs.declared.row.NormalForm.{NormalForm}
 use Rattle.rule_and_take.proofs.Files.{file_refused, file_read}
-use borrow.Author.Rules.{rules}
 use Rattle.citronhelm.proofs.citronhelm_rows.Goals as goal
 
 pub normal_form-form-requires : goal.normal_form-form-requires

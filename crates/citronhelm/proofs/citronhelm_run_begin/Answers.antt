@@ -1,6 +1,5 @@
 use Rattle.rule_file.specs.Rule.{parse_rule}
 use Rattle.citronhelm.proofs.Runs.{begin_coded}
-use borrow.Author.Rules.{rules}
 use Rattle.citronhelm.proofs.citronhelm_run_begin.Goals as goal
 
 pub returns : goal.returns

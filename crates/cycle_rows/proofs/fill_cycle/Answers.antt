@@ -3,12 +3,8 @@ use mathlib.Core.Bool.{Bool, false}
 use mathlib.Core.Path.{◌≡◌, ◌∙◌}
 use native.Mathlib.Omega.{arith}
 use lib.ListN.{get_or}
-use Rattle.tables.specs.declared.row.NormalForm.{NormalForm}
-use Rattle.normal_form.specs.Form.{InNormalForm}
-use Rattle.cycle_rows.specs.Steps.{StepsOf}
 use Rattle.cycle_rows.proofs.Cases.{byte_most}
-use Rattle.cycle_rows.proofs.Columns.{FilledTo, filled_none, filled_step, filled_all, step_cells}
-use borrow.Author.Rules.{rules}
+use Rattle.cycle_rows.proofs.Columns.{filled_none, filled_step, filled_all, step_cells}
 use Rattle.cycle_rows.proofs.fill_cycle.Goals as goal
 
 pub loop-i-init : goal.loop-i-init

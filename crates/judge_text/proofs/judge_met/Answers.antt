@@ -10,7 +10,6 @@ use Rattle.judging.proofs.Covered.{verdict_covered}
 use Rattle.judge_text.specs.Text.{verdict_text}
 use Rattle.judge_text.specs.Answer.{IsVerdictText}
 use Rattle.take_writer.proofs.Lengths.{ending_small}
-use borrow.Author.Rules.{rules}
 use Rattle.judge_text.proofs.judge_met.Goals as goal
 
 pub deliver_refusal-requires : goal.deliver_refusal-requires
@@ -28,7 +27,9 @@ pub returns-in-Refused : goal.returns-in-Refused
 returns-in-Refused c = record { prints = told_refused _ (IsVerdictText c.args.formula c.args.trace) (know c.meet-met.ensures.outcome c.in-Refused.is) c.deliver_refusal.ensures.delivers }
 
 pub returns-in-Accepted : goal.returns-in-Accepted
-returns-in-Accepted c = record { prints = let met = have_met Either c.args.formula c.args.trace c.requires (c.meet-met.ensures.outcome, (c.meet-met.ensures.form, c.meet-met.ensures.covered)) c.in-Accepted.is in
-    told_accepted _ (IsVerdictText c.args.formula c.args.trace) _ (know c.meet-met.ensures.outcome c.in-Accepted.is)
-    (c.decide-found.result, verdict_covered met _ c.decide-found.ensures.verdict, ap (λ (g : NormalForm). verdict_text c.args.formula.signals g.rows c.args.trace.cycles c.args.trace.ending c.decide-found.result) met.form)
-    c.deliver_verdict.ensures.delivers }
+returns-in-Accepted c = record {
+  prints = let met = have_met Either c.args.formula c.args.trace c.requires (c.meet-met.ensures.outcome, (c.meet-met.ensures.form, c.meet-met.ensures.covered)) c.in-Accepted.is in
+      told_accepted _ (IsVerdictText c.args.formula c.args.trace) _ (know c.meet-met.ensures.outcome c.in-Accepted.is)
+      (c.decide-found.result, verdict_covered met _ c.decide-found.ensures.verdict, ap (λ (g : NormalForm). verdict_text c.args.formula.signals g.rows c.args.trace.cycles c.args.trace.ending c.decide-found.result) met.form)
+      c.deliver_verdict.ensures.delivers;
+}

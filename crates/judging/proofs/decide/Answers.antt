@@ -3,7 +3,6 @@ use Rattle.meaning.specs.Covers.{CoversIn}
 use Rattle.normal_form.specs.declared.sign.Sign.TheVariants.{Plain, Negated}
 use Rattle.normal_form.proofs.Ranges.{form_normal}
 use Rattle.judging.proofs.Roots.{found_holds, found_breaks, found_kept, found_broken, found_open}
-use borrow.Author.Rules.{rules}
 use Rattle.judging.proofs.decide.Goals as goal
 
 pub root_true-yes-requires : goal.root_true-yes-requires

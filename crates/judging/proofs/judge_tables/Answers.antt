@@ -1,6 +1,5 @@
 use Rattle.tables.proofs.Choices.{know}
 use Rattle.judging.proofs.ByBits.{only_refused}
-use borrow.Author.Rules.{rules}
 use Rattle.judging.proofs.judge_tables.Goals as goal
 
 pub judge_met-requires : goal.judge_met-requires

@@ -1,5 +1,4 @@
 use Rattle.judging.proofs.Roots.{root_bit}
-use borrow.Author.Rules.{rules}
 use Rattle.judging.proofs.root_true.Goals as goal
 
 pub returns : goal.returns

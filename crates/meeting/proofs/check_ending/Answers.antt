@@ -1,6 +1,5 @@
 use mathlib.Core.Path.{sym, ap₂, ◌∙◌}
 use Rattle.meeting.specs.Meeting.{eight_outcome}
-use borrow.Author.Rules.{rules}
 use Rattle.meeting.proofs.check_ending.Goals as goal
 
 pub returns-in-Open : goal.returns-in-Open

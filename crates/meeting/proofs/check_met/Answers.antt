@@ -1,6 +1,5 @@
 use mathlib.Core.Path.{ap₂, ◌∙◌}
 use Rattle.tables.specs.Refusal.{and_then}
-use borrow.Author.Rules.{rules}
 use Rattle.meeting.proofs.check_met.Goals as goal
 
 pub returns : goal.returns

@@ -1,7 +1,6 @@
 use mathlib.Core.Path.{sym, ap₂, ◌∙◌}
 use Rattle.tables.specs.Refusal.{and_then}
 use Rattle.tables.proofs.Outcomes.{both_accept}
-use borrow.Author.Rules.{rules}
 use Rattle.meeting.proofs.check_own.Goals as goal
 
 pub returns : goal.returns

@@ -1,6 +1,5 @@
 use mathlib.Core.Path.{◌∙◌}
 use Rattle.tables.proofs.Outcomes.{differ, agree}
-use borrow.Author.Rules.{rules}
 use Rattle.meeting.proofs.check_signals.Goals as goal
 
 pub returns-then-rule-take : goal.returns-then-rule-take

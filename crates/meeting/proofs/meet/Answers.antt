@@ -1,7 +1,6 @@
 use mathlib.Core.Path.{refl, sym, ◌∙◌}
 use Rattle.tables.proofs.Outcomes.{refused_only}
 use Rattle.written_out.proofs.Laws.{covered_itself}
-use borrow.Author.Rules.{rules}
 use Rattle.meeting.proofs.meet.Goals as goal
 
 pub returns-in-Refused : goal.returns-in-Refused

@@ -1,5 +1,4 @@
 use Rattle.normal_form.specs.Numbering.{normal_listing, normal_form, listed_form}
-use borrow.Author.Rules.{rules}
 use Rattle.normal_form.proofs.normal_form.Goals as goal
 
 pub returns : goal.returns

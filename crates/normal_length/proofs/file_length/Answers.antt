@@ -1,6 +1,5 @@
 use native.Mathlib.Omega.{arith}
 use Rattle.normal_length.proofs.Lengths.{normal_size}
-use borrow.Author.Rules.{rules}
 use Rattle.normal_length.proofs.file_length.Goals as goal
 
 pub returns : goal.returns

@@ -4,7 +4,6 @@ use Rattle.tables.specs.Refusal.{on_outcome}
 use Rattle.tables.proofs.Choices.{know}
 use Rattle.normal_file.specs.Answer.{output}
 use Rattle.writing.specs.declared.answer.Bytes.TheVariants.{Count, Refused}
-use borrow.Author.Rules.{rules}
 use Rattle.normal_length.proofs.measure.Goals as goal
 
 pub measure_form-requires : goal.measure_form-requires
@@ -14,5 +13,7 @@ pub returns-in-Refused : goal.returns-in-Refused
 returns-in-Refused c = record { answer = sym (rw (know c.check_formula-outcome.ensures.outcome c.in-Refused.is)) }
 
 pub returns-in-Accepted : goal.returns-in-Accepted
-returns-in-Accepted c = record { answer = let accepted = know c.check_formula-outcome.ensures.outcome c.in-Accepted.is in
-    ap Count c.measure_form.ensures.length ∙ sym (ap (λ o. on_outcome o Refused (Count (length (output c.args.formula c.args.sign)))) accepted) }
+returns-in-Accepted c = record {
+  answer = let accepted = know c.check_formula-outcome.ensures.outcome c.in-Accepted.is in
+      ap Count c.measure_form.ensures.length ∙ sym (ap (λ o. on_outcome o Refused (Count (length (output c.args.formula c.args.sign)))) accepted);
+}

@@ -3,7 +3,6 @@ use lib.ListN.{length}
 use Rattle.tables.specs.declared.row.NormalForm.{NormalForm}
 use Rattle.normal_form.proofs.Ranges.{form_normal}
 use Rattle.row_writer.specs.Normal.{written_normal}
-use borrow.Author.Rules.{rules}
 use Rattle.normal_length.proofs.measure_form.Goals as goal
 
 pub file_length-requires : goal.file_length-requires

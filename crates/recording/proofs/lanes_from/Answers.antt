@@ -1,7 +1,7 @@
 use Prim.Native.Nat.{◌-◌}
 use mathlib.Core.Path.{refl}
 use borrow.Author.Rules.{rules}
-use Rattle.recording.proofs.Words.{LanesAt, lanes_start, lanes_more, lanes_end}
+use Rattle.recording.proofs.Words.{lanes_start, lanes_more, lanes_end}
 use Rattle.recording.proofs.lanes_from.Goals as goal
 
 pub loop-s-init : goal.loop-s-init

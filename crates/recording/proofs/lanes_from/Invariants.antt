@@ -1,7 +1,5 @@
 use Prim.Native.Nat.{◌-◌}
-use mathlib.Core.Path.{refl}
-use borrow.Author.Rules.{rules}
-use Rattle.recording.proofs.Words.{LanesAt, lanes_start, lanes_more, lanes_end}
+use Rattle.recording.proofs.Words.{LanesAt}
 use Rattle.recording.proofs.lanes_from.Given as goal
 
 abbrev pub invariant-loop-s : goal.invariant-loop-s

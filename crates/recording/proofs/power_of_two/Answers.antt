@@ -1,6 +1,5 @@
 use native.Mathlib.Nat.{one-mul, mod-eq_of_lt}
 use lib.Pow.{pow-lt}
-use borrow.Author.Rules.{rules}
 use Rattle.recording.proofs.power_of_two.Goals as goal
 
 pub returns : goal.returns

@@ -1,8 +1,7 @@
 use Prim.Native.Nat.{◌-◌}
-use mathlib.Core.Path.{◌≡◌, refl}
-use lib.ListN.{length}
+use mathlib.Core.Path.{refl}
 use borrow.Author.Rules.{rules}
-use Rattle.recording.proofs.Words.{PutAt, put_start, put_length, put_end, put_room, put_more, recorded_room, recorded_more}
+use Rattle.recording.proofs.Words.{put_start, put_length, put_end, put_room, put_more, recorded_room, recorded_more}
 use Rattle.recording.proofs.put_cycle.Goals as goal
 
 pub loop-s-init : goal.loop-s-init

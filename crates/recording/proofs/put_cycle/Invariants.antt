@@ -1,8 +1,7 @@
 use Prim.Native.Nat.{◌-◌}
-use mathlib.Core.Path.{◌≡◌, refl}
+use mathlib.Core.Path.{◌≡◌}
 use lib.ListN.{length}
-use borrow.Author.Rules.{rules}
-use Rattle.recording.proofs.Words.{PutAt, put_start, put_length, put_end, put_room, put_more, recorded_room, recorded_more}
+use Rattle.recording.proofs.Words.{PutAt}
 use Rattle.recording.proofs.put_cycle.Given as goal
 
 abbrev pub invariant-loop-s : goal.invariant-loop-s

@@ -1,7 +1,6 @@
 use mathlib.Core.Path.{ap}
 use Rattle.tables.specs.declared.refusal.Outcome.{Outcome}
 use Rattle.rule_and_take.specs.declared.Pair.{Pair}
-use borrow.Author.Rules.{rules}
 use Rattle.rule_and_take.proofs.join.Goals as goal
 
 pub returns : goal.returns

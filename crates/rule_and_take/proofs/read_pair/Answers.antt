@@ -1,7 +1,6 @@
 use Rattle.rule_file.specs.Rule.{parse_rule}
 use Rattle.take_file.specs.Take.{parse_take}
 use Rattle.rule_and_take.proofs.Files.{pair_is}
-use borrow.Author.Rules.{rules}
 use Rattle.rule_and_take.proofs.read_pair.Goals as goal
 
 pub returns : goal.returns

@@ -6,7 +6,6 @@ use Rattle.text.proofs.Searching.{found}
 use Rattle.rule_row.specs.Row.{kind_named, form_as}
 use Rattle.rule_row.specs.declared.RowForm.TheVariants.{Form}
 use Rattle.rule_row.proofs.RowValues.{form_unknown, form_miscounted, form_counted}
-use borrow.Author.Rules.{rules}
 use Rattle.rule_row.proofs.form_of.Goals as goal
 
 pub returns-in_default : goal.returns-in_default

@@ -1,7 +1,5 @@
 use mathlib.Core.Path.{◌∙◌}
-use borrow.Author.Tests.{not-true, not-false}
 use Rattle.tables.proofs.Choices.{know}
-use borrow.Author.Rules.{rules}
 use Rattle.rule_row.proofs.in_range.Goals as goal
 
 pub returns-then-not-is_operand : goal.returns-then-not-is_operand

@@ -1,16 +1,15 @@
 use mathlib.Core.Path.{◌≡◌, sym, subst}
 use mathlib.Core.Bool.{true, false}
 use mathlib.Core.List.{List}
-use Prim.Native.Nat.{◌-◌}
 use lib.ListN.{get_or}
 use lib.Seq.{length-take-le}
 use borrow.Author.Rules.{rules}
 use Rattle.tables.specs.Bytes.{same_bytes}
-use Rattle.tables.specs.Kind.{kinds, kind_count, kind_at, no_kind, word_of}
+use Rattle.tables.specs.Kind.{kinds, kind_at, no_kind, word_of}
 use Rattle.tables.specs.declared.kind.Kind.{Kind}
 use Rattle.tables.proofs.KindTable.{word_fits}
 use Rattle.tables.proofs.Choices.{know}
-use Rattle.text.proofs.Searching.{FirstAt, first_starts, first_hit, first_miss, first_none}
+use Rattle.text.proofs.Searching.{first_starts, first_hit, first_miss, first_none}
 use Rattle.rule_row.specs.Row.{kind_named}
 use Rattle.rule_row.proofs.kind_named.Goals as goal
 
@@ -28,8 +27,10 @@ slice_bounds-same-end c = sym (length-take-le _ _ (rw c.table-kinds.ensures.answ
 
 pub returns-then-same : goal.returns-then-same
 unfolding kind_named kinds kind_at
-returns-then-same c = record { answer = first_hit c.loop-place.invariant no_kind (search rules) (subst (λ (l : List Kind). same_bytes c.args.word.now (word_of (get_or l c.loop-place.place
-    no_kind)) ≡ true) c.table-kinds.ensures.answer (know c.same.ensures.answer c.if-same.true)) }
+returns-then-same c = record {
+  answer = first_hit c.loop-place.invariant no_kind (search rules) (subst (λ (l : List Kind). same_bytes c.args.word.now (word_of (get_or l c.loop-place.place
+      no_kind)) ≡ true) c.table-kinds.ensures.answer (know c.same.ensures.answer c.if-same.true));
+}
 
 pub loop-place-preserved : goal.loop-place-preserved
 unfolding kinds kind_at

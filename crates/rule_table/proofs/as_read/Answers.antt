@@ -1,8 +1,6 @@
-use mathlib.Core.Path.{sym, ◌∙◌}
 use Prim.Native.Nat.{◌-◌}
 use native.Mathlib.Omega.{arith}
-use lib.ListN.{length-map}
-use Rattle.rule_table.proofs.Tables.{FilledTo, none_filled, filled_more, read_filled}
+use Rattle.rule_table.proofs.Tables.{none_filled, filled_more, read_filled}
 use borrow.Author.Rules.{rules}
 use Rattle.rule_table.proofs.as_read.Goals as goal
 

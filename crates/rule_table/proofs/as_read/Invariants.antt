@@ -1,9 +1,5 @@
-use mathlib.Core.Path.{sym, ◌∙◌}
 use Prim.Native.Nat.{◌-◌}
-use native.Mathlib.Omega.{arith}
-use lib.ListN.{length-map}
-use Rattle.rule_table.proofs.Tables.{FilledTo, none_filled, filled_more, read_filled}
-use borrow.Author.Rules.{rules}
+use Rattle.rule_table.proofs.Tables.{FilledTo}
 use Rattle.rule_table.proofs.as_read.Given as goal
 
 abbrev pub invariant-loop-place : goal.invariant-loop-place

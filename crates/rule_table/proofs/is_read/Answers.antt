@@ -1,5 +1,4 @@
 use Rattle.rule_table.proofs.Tables.{refused_read, accepted_read}
-use borrow.Author.Rules.{rules}
 use Rattle.rule_table.proofs.is_read.Goals as goal
 
 pub unused_true-requires : goal.unused_true-requires

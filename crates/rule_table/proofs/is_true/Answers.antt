@@ -2,7 +2,6 @@ use mathlib.Core.Path.{ap, ◌∙◌}
 use Rattle.tables.specs.declared.row.Row.TheVariants.{Constant}
 use Rattle.tables.proofs.Choices.{clash}
 use Rattle.rule_table.proofs.Tables.{true_row, other_row}
-use borrow.Author.Rules.{rules}
 use Rattle.rule_table.proofs.is_true.Goals as goal
 
 pub returns-in-True : goal.returns-in-True

@@ -1,9 +1,6 @@
-use mathlib.Core.Path.{sym, ◌∙◌}
 use Prim.Native.Nat.{◌-◌}
 use native.Mathlib.Omega.{arith}
-use lib.ListN.{length-map}
-use borrow.Author.Tests.{not-true, not-false}
-use Rattle.rule_table.proofs.Tables.{TrueTo, none_yet, true_more, other_place, each_true}
+use Rattle.rule_table.proofs.Tables.{none_yet, true_more, other_place, each_true}
 use borrow.Author.Rules.{rules}
 use Rattle.rule_table.proofs.unused_true.Goals as goal
 

@@ -1,10 +1,5 @@
 use Prim.Native.Nat.{◌-◌}
-use mathlib.Core.Path.{◌≡◌, sym, ◌∙◌}
-use native.Mathlib.Omega.{arith}
-use lib.ListN.{length, length-map}
-use Rattle.rule_file.specs.Rule.{in_place, unused}
-use Rattle.row_writer.proofs.Rows.{RowsAt, rows_start, rows_more, rows_end}
-use borrow.Author.Rules.{rules}
+use Rattle.row_writer.proofs.Rows.{RowsAt}
 use Rattle.rule_writer.proofs.put_rows.Given as goal
 
 abbrev pub invariant-loop-k : goal.invariant-loop-k

@@ -1,7 +1,6 @@
 use Rattle.rule_file.specs.Written.{rows_of, written_rule}
 use Rattle.writing.proofs.Texts.{wrote_both, wrote_is}
 use Rattle.row_writer.proofs.Rows.{counts_front}
-use borrow.Author.Rules.{rules}
 use Rattle.rule_writer.proofs.put_rule.Goals as goal
 
 pub returns : goal.returns

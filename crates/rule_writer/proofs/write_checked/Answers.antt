@@ -2,7 +2,6 @@ use mathlib.Core.Path.{sym}
 use lib.Seq.{length-take-le}
 use Rattle.writing.proofs.Answers.{delivers_is}
 use Rattle.writing.proofs.Texts.{wrote_within, wrote_start}
-use borrow.Author.Rules.{rules}
 use Rattle.rule_writer.proofs.write_checked.Goals as goal
 
 pub slice_bounds-space-end : goal.slice_bounds-space-end

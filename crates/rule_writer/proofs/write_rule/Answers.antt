@@ -1,5 +1,4 @@
 use Rattle.tables.proofs.Choices.{know}
-use borrow.Author.Rules.{rules}
 use Rattle.rule_writer.proofs.Answers.{refused_both, written_both}
 use Rattle.rule_writer.proofs.write_rule.Goals as goal
 

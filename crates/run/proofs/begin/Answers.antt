@@ -2,7 +2,6 @@ use Rattle.rule_file.specs.Rule.{parse_rule}
 use Rattle.rule_file.specs.Written.{written_rule}
 use Rattle.rule_and_take.proofs.Files.{file_refused, file_read}
 use Rattle.tables.proofs.Choices.{know}
-use borrow.Author.Rules.{rules}
 use Rattle.run.proofs.begin.Goals as goal
 
 pub as_read-read-requires : goal.as_read-read-requires

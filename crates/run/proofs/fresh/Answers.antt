@@ -1,8 +1,6 @@
 use mathlib.Core.Path.{ap}
 use mathlib.Core.List.{List}
 use Prim.Native.Nat.{ℕ}
-use Rattle.tables.specs.declared.run.Run.{Run}
-use borrow.Author.Rules.{rules}
 use Rattle.run.proofs.fresh.Goals as goal
 
 pub returns : goal.returns

@@ -1,5 +1,4 @@
 use Rattle.run.proofs.Services.{one_more}
-use borrow.Author.Rules.{rules}
 use Rattle.run.proofs.one_more.Goals as goal
 
 pub returns : goal.returns

@@ -1,5 +1,4 @@
 use Rattle.run.proofs.Services.{tested, untested, strayed, stays, more_room, goes_on}
-use borrow.Author.Rules.{rules}
 use Rattle.run.proofs.take_cycle.Goals as goal
 
 pub returns-then-not-is_led : goal.returns-then-not-is_led

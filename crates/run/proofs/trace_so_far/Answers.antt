@@ -1,5 +1,4 @@
 use Rattle.run.proofs.Services.{trace_of_lem}
-use borrow.Author.Rules.{rules}
 use Rattle.run.proofs.trace_so_far.Goals as goal
 
 pub returns : goal.returns

@@ -4,7 +4,6 @@ use Rattle.rule_file.proofs.Rules.{rule_said, rule_is}
 use Rattle.rule_and_take.proofs.Files.{file_refused, file_read}
 use Rattle.writing.proofs.Answers.{delivers_is}
 use Rattle.run_bytes.specs.Bytes.{run_bytes}
-use borrow.Author.Rules.{rules}
 use Rattle.run_state.proofs.begin.Goals as goal
 
 pub returns-in-Refused : goal.returns-in-Refused

@@ -1,5 +1,4 @@
 use Rattle.run_state.proofs.States.{no_cycle, refused_cycle, accepted_cycle, room}
-use borrow.Author.Rules.{rules}
 use Rattle.run_state.proofs.take_cycle.Goals as goal
 
 pub returns-then-not-held : goal.returns-then-not-held

@@ -1,6 +1,5 @@
 use mathlib.Core.Path.{refl}
 use Rattle.run_state.proofs.States.{no_verdict, verdict_so}
-use borrow.Author.Rules.{rules}
 use Rattle.run_state.proofs.verdict.Goals as goal
 
 pub returns-then-not-held : goal.returns-then-not-held

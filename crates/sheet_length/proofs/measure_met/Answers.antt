@@ -3,7 +3,6 @@ use Rattle.meeting.specs.declared.Wanted.TheVariants.{Either}
 use Rattle.meeting.proofs.Covered.{have_met, met_form, met_range, met_covers}
 use Rattle.sheet_maker.proofs.Sheets.{rows_met, cycles_met}
 use Rattle.sheet_length.proofs.Answers.{refused_measures, sheet_measures, none_measures}
-use borrow.Author.Rules.{rules}
 use Rattle.sheet_length.proofs.measure_met.Goals as goal
 
 pub truth_sheet-sheet-requires : goal.truth_sheet-sheet-requires
@@ -25,11 +24,15 @@ pub returns-in-Refused : goal.returns-in-Refused
 returns-in-Refused c = record { measures = refused_measures _ c.args.formula c.args.trace (λ e. c.requires.0) (know c.meet-met.ensures.outcome c.in-Refused.is) }
 
 pub returns-then-sets_root : goal.returns-then-sets_root
-returns-then-sets_root c = record { measures = let met = have_met Either c.args.formula c.args.trace c.requires (c.meet-met.ensures.outcome, (c.meet-met.ensures.form, c.meet-met.ensures.covered)) c.in-Accepted.is in
-    sheet_measures _ c.args.formula c.args.trace (λ e. c.requires.0) met c.truth_sheet-sheet.ensures.made (know c.meet-met.ensures.outcome c.in-Accepted.is)
-    c.sets_root.ensures.root c.if-sets_root.true c.sheet_length.ensures.length }
+returns-then-sets_root c = record {
+  measures = let met = have_met Either c.args.formula c.args.trace c.requires (c.meet-met.ensures.outcome, (c.meet-met.ensures.form, c.meet-met.ensures.covered)) c.in-Accepted.is in
+      sheet_measures _ c.args.formula c.args.trace (λ e. c.requires.0) met c.truth_sheet-sheet.ensures.made (know c.meet-met.ensures.outcome c.in-Accepted.is)
+      c.sets_root.ensures.root c.if-sets_root.true c.sheet_length.ensures.length;
+}
 
 pub returns-else-sets_root : goal.returns-else-sets_root
-returns-else-sets_root c = record { measures = let met = have_met Either c.args.formula c.args.trace c.requires (c.meet-met.ensures.outcome, (c.meet-met.ensures.form, c.meet-met.ensures.covered)) c.in-Accepted.is in
-    none_measures _ c.args.formula c.args.trace (λ e. c.requires.0) met c.truth_sheet-sheet.ensures.made (know c.meet-met.ensures.outcome c.in-Accepted.is)
-    c.sets_root.ensures.root c.if-sets_root.false }
+returns-else-sets_root c = record {
+  measures = let met = have_met Either c.args.formula c.args.trace c.requires (c.meet-met.ensures.outcome, (c.meet-met.ensures.form, c.meet-met.ensures.covered)) c.in-Accepted.is in
+      none_measures _ c.args.formula c.args.trace (λ e. c.requires.0) met c.truth_sheet-sheet.ensures.made (know c.meet-met.ensures.outcome c.in-Accepted.is)
+      c.sets_root.ensures.root c.if-sets_root.false;
+}

@@ -1,6 +1,5 @@
 use mathlib.Core.Path.{sym, ap}
 use Rattle.sheet_maker.specs.Answer.{answer_of}
-use borrow.Author.Rules.{rules}
 use Rattle.sheet_maker.proofs.maker_answer.Goals as goal
 
 pub returns-in-Count : goal.returns-in-Count

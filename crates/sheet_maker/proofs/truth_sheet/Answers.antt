@@ -1,5 +1,4 @@
-use mathlib.Core.Path.{refl, sym, ◌∙◌}
-use lib.ListN.{length-map}
+use mathlib.Core.Path.{refl}
 use Rattle.sheet_maker.proofs.Sheets.{filled_made}
 use borrow.Author.Rules.{rules}
 use Rattle.sheet_maker.proofs.truth_sheet.Goals as goal

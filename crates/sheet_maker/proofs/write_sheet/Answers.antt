@@ -1,6 +1,5 @@
-use mathlib.Core.Path.{sym, subst, ◌∙◌}
+use mathlib.Core.Path.{sym, subst}
 use native.Mathlib.Omega.{arith}
-use lib.ListN.{length-map}
 use Rattle.writing.specs.Answer.{Delivers}
 use Rattle.writing.proofs.Answers.{wrote_delivers, short_delivers}
 use Rattle.sheet_maker.proofs.Lengths.{sheet_size}

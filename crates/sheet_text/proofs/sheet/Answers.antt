@@ -1,4 +1,3 @@
-use borrow.Author.Rules.{rules}
 use Rattle.sheet_text.proofs.sheet.Goals as goal
 
 pub returns : goal.returns

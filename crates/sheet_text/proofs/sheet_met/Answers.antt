@@ -7,7 +7,6 @@ use Rattle.writing.proofs.Answers.{told_refused, told_accepted}
 use Rattle.sheet_maker.proofs.Sheets.{rows_met, cycles_met}
 use Rattle.sheet_text.specs.Answer.{IsMadeText}
 use Rattle.sheet_text.proofs.Answers.{sheet_text, none_text_lem}
-use borrow.Author.Rules.{rules}
 use Rattle.sheet_text.proofs.sheet_met.Goals as goal
 
 pub deliver_refusal-requires : goal.deliver_refusal-requires
@@ -33,11 +32,15 @@ pub returns-in-Refused : goal.returns-in-Refused
 returns-in-Refused c = record { prints = told_refused _ (IsMadeText c.args.formula c.args.trace) (know c.meet-met.ensures.outcome c.in-Refused.is) c.deliver_refusal.ensures.delivers }
 
 pub returns-then-sets_root : goal.returns-then-sets_root
-returns-then-sets_root c = record { prints = let met = have_met Either c.args.formula c.args.trace c.requires (c.meet-met.ensures.outcome, (c.meet-met.ensures.form, c.meet-met.ensures.covered)) c.in-Accepted.is in
-    let text = sheet_text met c.truth_sheet-sheet.ensures.made c.sets_root.ensures.root c.if-sets_root.true in
-    told_accepted _ (IsMadeText c.args.formula c.args.trace) _ (know c.meet-met.ensures.outcome c.in-Accepted.is) text c.write_sheet.ensures.delivers }
+returns-then-sets_root c = record {
+  prints = let met = have_met Either c.args.formula c.args.trace c.requires (c.meet-met.ensures.outcome, (c.meet-met.ensures.form, c.meet-met.ensures.covered)) c.in-Accepted.is in
+      let text = sheet_text met c.truth_sheet-sheet.ensures.made c.sets_root.ensures.root c.if-sets_root.true in
+      told_accepted _ (IsMadeText c.args.formula c.args.trace) _ (know c.meet-met.ensures.outcome c.in-Accepted.is) text c.write_sheet.ensures.delivers;
+}
 
 pub returns-else-sets_root : goal.returns-else-sets_root
-returns-else-sets_root c = record { prints = let met = have_met Either c.args.formula c.args.trace c.requires (c.meet-met.ensures.outcome, (c.meet-met.ensures.form, c.meet-met.ensures.covered)) c.in-Accepted.is in
-    let text = none_text_lem met c.truth_sheet-sheet.ensures.made c.sets_root.ensures.root c.if-sets_root.false in
-    told_accepted _ (IsMadeText c.args.formula c.args.trace) _ (know c.meet-met.ensures.outcome c.in-Accepted.is) text c.deliver.ensures.delivers }
+returns-else-sets_root c = record {
+  prints = let met = have_met Either c.args.formula c.args.trace c.requires (c.meet-met.ensures.outcome, (c.meet-met.ensures.form, c.meet-met.ensures.covered)) c.in-Accepted.is in
+      let text = none_text_lem met c.truth_sheet-sheet.ensures.made c.sets_root.ensures.root c.if-sets_root.false in
+      told_accepted _ (IsMadeText c.args.formula c.args.trace) _ (know c.meet-met.ensures.outcome c.in-Accepted.is) text c.deliver.ensures.delivers;
+}

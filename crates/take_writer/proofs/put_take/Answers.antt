@@ -1,7 +1,7 @@
 use mathlib.Core.List.{[]}
-use mathlib.Core.Path.{◌≡◌, sym, ◌∙◌}
+use mathlib.Core.Path.{◌≡◌}
 use native.Mathlib.Omega.{arith}
-use lib.ListN.{length, length-map}
+use lib.ListN.{length}
 use Rattle.tables.specs.Bytes.{bytes}
 use Rattle.text.specs.Written.{decimal}
 use Rattle.text.proofs.Laws.{line_length}
@@ -53,7 +53,9 @@ put_cycles-requires c =
 
 pub returns : goal.returns
 unfolding written_take
-returns c = record { text = wrote_line (bytes "format") (decimal 1) c.put_number_line-a.ensures.text
-    (wrote_line (bytes "signals") (decimal c.args.trace.signals) c.put_number_line-b.ensures.text
-    (wrote_line (bytes "cycles") (decimal c.args.trace.cycles) c.put_number_line-c.ensures.text
-    (wrote_line (bytes "loop") (ending_text c.args.trace.ending) c.put_ending-d.ensures.text c.put_cycles.ensures.text))) }
+returns c = record {
+  text = wrote_line (bytes "format") (decimal 1) c.put_number_line-a.ensures.text
+      (wrote_line (bytes "signals") (decimal c.args.trace.signals) c.put_number_line-b.ensures.text
+      (wrote_line (bytes "cycles") (decimal c.args.trace.cycles) c.put_number_line-c.ensures.text
+      (wrote_line (bytes "loop") (ending_text c.args.trace.ending) c.put_ending-d.ensures.text c.put_cycles.ensures.text)));
+}

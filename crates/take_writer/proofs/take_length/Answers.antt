@@ -1,8 +1,8 @@
 use Prim.Native.Nat.{◌+◌}
-use mathlib.Core.Path.{◌≡◌, sym, ◌∙◌}
+use mathlib.Core.Path.{◌≡◌}
 use native.Mathlib.Nat.{mul-le-mul_right}
 use native.Mathlib.Omega.{arith}
-use lib.ListN.{length, length-map}
+use lib.ListN.{length}
 use borrow.Author.Rules.{rules}
 use Rattle.take_writer.proofs.Lengths.{ending_small, ending_short, body_length, file_length}
 use Rattle.take_writer.proofs.take_length.Goals as goal
@@ -21,6 +21,8 @@ overflow_add-result c =
     omega (arith, c.cycles_length.ensures.length, c.ending_length.ensures.length, c.number_length.ensures.length.1, c.number_length-2.ensures.length.1, ending_short c.args.trace.ending, c.requires.most_signals)
 
 pub returns : goal.returns
-returns c = record { length = let full : length c.args.trace.lanes ≡ 32 = search rules in
-    let b = body_length c.args.trace full c.requires in
-    omega (arith, file_length c.args.trace full c.requires, c.cycles_length.ensures.length, c.number_length-2.ensures.length.0) }
+returns c = record {
+  length = let full : length c.args.trace.lanes ≡ 32 = search rules in
+      let b = body_length c.args.trace full c.requires in
+      omega (arith, file_length c.args.trace full c.requires, c.cycles_length.ensures.length, c.number_length-2.ensures.length.0);
+}

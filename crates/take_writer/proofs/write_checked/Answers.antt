@@ -2,7 +2,6 @@ use mathlib.Core.Path.{sym, subst}
 use native.Mathlib.Omega.{arith}
 use Rattle.writing.specs.Answer.{Delivers}
 use Rattle.writing.proofs.Answers.{wrote_delivers, short_delivers}
-use borrow.Author.Rules.{rules}
 use Rattle.take_writer.proofs.write_checked.Goals as goal
 
 pub returns-then-buf-take_length : goal.returns-then-buf-take_length

@@ -1,5 +1,4 @@
 use Rattle.tables.proofs.Choices.{know}
-use borrow.Author.Rules.{rules}
 use Rattle.take_writer.proofs.Answers.{refused_both, written_both}
 use Rattle.take_writer.proofs.write_take.Goals as goal
 

@@ -1,4 +1,4 @@
-use Prim.Native.Nat.{◌-◌, ◌≤◌, ◌<◌}
+use Prim.Native.Nat.{◌-◌, ◌<◌}
 use mathlib.Core.Path.{◌≡◌, sym, subst, ◌∙◌}
 use native.Mathlib.Omega.{arith}
 use borrow.Author.Rules.{rules}
@@ -23,12 +23,14 @@ loop-c-preserved c =
       search rules,
       search rules,
       elim c.if-bit.branch [
-        then-bit w ↦ w.out-is ∙ w.with_bit-out.ensures.answer ∙ set_shows _ _ c.requires.0 (omega (arith, c.requires.1, c.requires.2)) _ _ _ c.loop-c.invariant.0 h c.loop-c.invariant.2 (read ∙ w.if-bit.true)
+        | then-bit w ↦ w.out-is ∙ w.with_bit-out.ensures.answer ∙ set_shows _ _ c.requires.0 (omega (arith, c.requires.1, c.requires.2)) _ _ _ c.loop-c.invariant.0 h c.loop-c.invariant.2 (read ∙ w.if-bit.true)
         | else-bit w ↦ w.out-is ∙ left_shows _ _ c.requires.0 (omega (arith, c.requires.1, c.requires.2)) _ _ _ c.loop-c.invariant.0 h c.loop-c.invariant.2 (read ∙ w.if-bit.false)
       ],
     )
 
 pub returns : goal.returns
-returns c = record { answer = let e : c.loop-c.c ≡ c.args.last = omega (arith, c.loop-c-test, c.loop-c.invariant.1) in
-    lane_written _ _ c.requires.0 (omega (arith, c.requires.1, c.requires.2)) _ _ (c.both-out.ensures.lane _ c.all.ensures.answer) _ _
-    (subst (λ m. Shows m c.loop-c.out (repeated c.args.cycles c.args.start c.both-out.result)) e c.loop-c.invariant.2) }
+returns c = record {
+  answer = let e : c.loop-c.c ≡ c.args.last = omega (arith, c.loop-c-test, c.loop-c.invariant.1) in
+      lane_written _ _ c.requires.0 (omega (arith, c.requires.1, c.requires.2)) _ _ (c.both-out.ensures.lane _ c.all.ensures.answer) _ _
+      (subst (λ m. Shows m c.loop-c.out (repeated c.args.cycles c.args.start c.both-out.result)) e c.loop-c.invariant.2);
+}

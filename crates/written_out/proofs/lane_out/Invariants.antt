@@ -1,10 +1,6 @@
-use Prim.Native.Nat.{◌-◌, ◌≤◌, ◌<◌}
-use mathlib.Core.Path.{◌≡◌, sym, subst, ◌∙◌}
-use mathlib.Core.Logic.{⊎_elim}
-use native.Mathlib.Omega.{arith}
-use borrow.Author.Rules.{rules}
+use Prim.Native.Nat.{◌-◌, ◌≤◌}
 use Rattle.lanes.specs.Truth.{Shows}
-use Rattle.written_out.proofs.OneLane.{repeated, own_shows, lane_written, set_room, set_shows, left_shows}
+use Rattle.written_out.proofs.OneLane.{repeated}
 use Rattle.written_out.proofs.lane_out.Given as goal
 
 abbrev pub invariant-loop-c : goal.invariant-loop-c

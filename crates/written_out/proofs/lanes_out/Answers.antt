@@ -1,6 +1,6 @@
 use Prim.Native.Nat.{◌-◌}
 use borrow.Author.Rules.{rules}
-use Rattle.written_out.proofs.Lanes.{LanesTo, written_lane, lanes_start, lanes_more, lanes_end}
+use Rattle.written_out.proofs.Lanes.{lanes_start, lanes_more, lanes_end}
 use Rattle.written_out.proofs.lanes_out.Goals as goal
 
 pub loop-s-init : goal.loop-s-init

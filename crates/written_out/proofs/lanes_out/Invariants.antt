@@ -1,6 +1,5 @@
 use Prim.Native.Nat.{◌-◌}
-use borrow.Author.Rules.{rules}
-use Rattle.written_out.proofs.Lanes.{LanesTo, written_lane, lanes_start, lanes_more, lanes_end}
+use Rattle.written_out.proofs.Lanes.{LanesTo, written_lane}
 use Rattle.written_out.proofs.lanes_out.Given as goal
 
 abbrev pub invariant-loop-s : goal.invariant-loop-s

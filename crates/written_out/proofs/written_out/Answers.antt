@@ -15,9 +15,11 @@ pub enum_known-ending : goal.enum_known-ending
 enum_known-ending c = search rules
 
 pub returns-then-rounds-eq0 : goal.returns-then-rounds-eq0
-returns-then-rounds-eq0 c = record { answer = let e : written_out c.args.trace c.args.rounds ≡ wholly c.args.trace =
-    ap (written_out c.args.trace) c.if-rounds-eq0.true ∙ written_none c.args.trace _ c.in-Loop.is in
-    sym e }
+returns-then-rounds-eq0 c = record {
+  answer = let e : written_out c.args.trace c.args.rounds ≡ wholly c.args.trace =
+      ap (written_out c.args.trace) c.if-rounds-eq0.true ∙ written_none c.args.trace _ c.in-Loop.is in
+      sym e;
+}
 
 pub overflow_sub-more : goal.overflow_sub-more
 overflow_sub-more c =
@@ -31,11 +33,10 @@ overflow_mul-more c =
     let h = rounds_room c.requires c.in-Loop.start c.args.rounds (search rules) in omega (arith, h)
 
 pub loop_out-requires : goal.loop_out-requires
-loop_out-requires c =
-    (
-      loop_below c.requires _ c.in-Loop.is,
-      rounds_room c.requires c.in-Loop.start c.args.rounds (search rules),
-    )
+loop_out-requires c = (
+  loop_below c.requires _ c.in-Loop.is,
+  rounds_room c.requires c.in-Loop.start c.args.rounds (search rules),
+)
 
 pub returns-in-Open : goal.returns-in-Open
 returns-in-Open c = record { answer = sym ((written_open c.args.trace c.args.rounds c.in-Open.is)) }

@@ -2,7 +2,6 @@ use mathlib.Core.Path.{sym}
 use lib.Seq.{length-take-le}
 use Rattle.writing.proofs.Texts.{wrote_within, wrote_start}
 use Rattle.writing.proofs.Answers.{delivers_is}
-use borrow.Author.Rules.{rules}
 use Rattle.check_text.proofs.finding.deliver_finding.Goals as goal
 
 pub slice_bounds-space-end : goal.slice_bounds-space-end

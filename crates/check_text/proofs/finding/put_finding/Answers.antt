@@ -1,7 +1,6 @@
 use Rattle.tables.specs.Bytes.{bytes}
 use Rattle.writing.proofs.Texts.{wrote_line}
 use Rattle.check_text.specs.Text.{finding_text, finding_word}
-use borrow.Author.Rules.{rules}
 use Rattle.check_text.proofs.finding.put_finding.Goals as goal
 
 pub returns : goal.returns

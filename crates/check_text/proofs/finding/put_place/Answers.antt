@@ -4,7 +4,6 @@ use Rattle.tables.specs.Bytes.{bytes}
 use Rattle.text.specs.Written.{decimal}
 use Rattle.writing.proofs.Texts.{wrote_none, wrote_line}
 use Rattle.check_text.specs.Text.{CycleBelow}
-use borrow.Author.Rules.{rules}
 use Rattle.check_text.proofs.finding.put_place.Goals as goal
 
 pub put_number_line-requires : goal.put_number_line-requires

@@ -1,5 +1,4 @@
 use native.Mathlib.Omega.{arith}
-use borrow.Author.Rules.{rules}
 use Rattle.check_text.proofs.finding.put_word.Goals as goal
 
 pub returns-in-Root : goal.returns-in-Root

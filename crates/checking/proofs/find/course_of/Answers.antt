@@ -1,8 +1,6 @@
-use Prim.Native.Nat.{◌<◌}
 use mathlib.Core.Path.{refl, subst}
 use native.Mathlib.Omega.{arith}
 use Rattle.take_file.specs.Valid.{Below as LoopBelow}
-use borrow.Author.Rules.{rules}
 use Rattle.checking.proofs.find.course_of.Goals as goal
 
 pub overflow_sub-result : goal.overflow_sub-result

@@ -1,5 +1,4 @@
 use Rattle.tables.proofs.Choices.{know}
-use borrow.Author.Tests.{not-true, not-false}
 use mathlib.Core.Path.{refl, ap, subst, subst⁻¹, ◌∙◌}
 use Rattle.row_monitor.specs.declared.row.Course.{Course}
 use Rattle.checking.specs.Survey.{SurveyTo}
@@ -7,7 +6,6 @@ use Rattle.checking.specs.Finding.{FindingOf}
 use Rattle.checking.specs.Conclusion.{concluded}
 use Rattle.checking.proofs.Findings.{root_only, finding_by}
 use Rattle.checking.proofs.Conclusions.{course_fits, concluded_finding}
-use borrow.Author.Rules.{rules}
 use Rattle.checking.proofs.find.find.Goals as goal
 
 pub returns-then-not-set : goal.returns-then-not-set

@@ -4,11 +4,8 @@ use lib.ListN.{get_or}
 use Rattle.tables.specs.declared.trace.Lane.{Lane}
 use Prim.Native.Nat.{◌-◌, ◌≤◌}
 use mathlib.Core.Path.{◌≡◌, refl, sym, ap, subst}
-use mathlib.Core.Logic.{⊎_elim}
 use native.Mathlib.Omega.{arith}
 use native.Mathlib.Numerals.{add-one}
-use Rattle.tables.specs.declared.trace.Activation.{Activation}
-use Rattle.tables.specs.declared.trace.Trace.{Trace}
 use Rattle.meaning.specs.Rows.{Each, EachSignal}
 use Rattle.normal_form.proofs.FormTables.{row_operands, row_signals}
 use Rattle.checking.specs.Survey.{SurveyTo}
@@ -83,7 +80,7 @@ loop-k-preserved c = (
   λ t a tl al.
       let own = ap (λ (ls : List Lane). get_or ls c.loop-k.k (record { words = [] })) (sym al) in
       rw (add-one c.loop-k.k, c.note-survey.ensures.answer) (survey_next c.args.form t a c.args.course (c.loop-k.invariant.1 t a tl al) (elim c.match-shape.branch [
-        in-Constant w ↦ reads_of t a w.in-Constant.is w.reads-is c.loop-k.k own tt
+        | in-Constant w ↦ reads_of t a w.in-Constant.is w.reads-is c.loop-k.k own tt
         | in-Signal w ↦ reads_of t a w.in-Signal.is w.reads-is c.loop-k.k own (ap (λ (ls : List Lane). get_or ls (w.in-Signal.s - 1) (record { words = [] })) (sym tl))
         | in-Unary w ↦ reads_of t a w.in-Unary.is w.reads-is c.loop-k.k own (ap (λ (ls : List Lane). get_or ls (w.in-Unary.a - 1) (record { words = [] })) (sym al))
         | in-Binary w ↦ reads_of t a w.in-Binary.is w.reads-is c.loop-k.k own (ap (λ (ls : List Lane). get_or ls (w.in-Binary.a - 1) (record { words = [] })) (sym al), ap (λ (ls : List Lane). get_or ls (w.in-Binary.b - 1) (record { words = [] })) (sym al))
@@ -91,5 +88,7 @@ loop-k-preserved c = (
 )
 
 pub returns : goal.returns
-returns c = record { survey = let e : c.loop-k.k ≡ c.args.form.rows = omega (arith, c.loop-k.invariant.0) in subst (λ m. SurveyTo c.args.form c.args.trace c.args.sheet
-    c.args.course m c.loop-k.survey) e (c.loop-k.invariant.1 c.args.trace c.args.sheet refl refl) }
+returns c = record {
+  survey = let e : c.loop-k.k ≡ c.args.form.rows = omega (arith, c.loop-k.invariant.0) in subst (λ m. SurveyTo c.args.form c.args.trace c.args.sheet
+      c.args.course m c.loop-k.survey) e (c.loop-k.invariant.1 c.args.trace c.args.sheet refl refl);
+}

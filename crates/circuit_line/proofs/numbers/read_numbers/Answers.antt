@@ -1,10 +1,9 @@
 use Prim.Native.Nat.{◌-◌}
-use mathlib.Core.Path.{◌≡◌}
 use native.Mathlib.Omega.{arith}
-use lib.ListN.{length, length-take}
+use lib.ListN.{length-take}
 use Rattle.tables.proofs.Choices.{know, rest_part}
 use Rattle.text.proofs.Searching.{found}
-use Rattle.circuit_line.proofs.NumberLists.{NumbersAt, numbers_start, no_space, no_number_lem, numbers_more, no_last, numbers_wrong, numbers_right}
+use Rattle.circuit_line.proofs.NumberLists.{numbers_start, no_space, no_number_lem, numbers_more, no_last, numbers_wrong, numbers_right}
 use borrow.Author.Rules.{rules}
 use Rattle.circuit_line.proofs.numbers.read_numbers.Goals as goal
 

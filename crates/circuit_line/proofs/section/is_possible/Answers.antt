@@ -1,4 +1,3 @@
-use borrow.Author.Rules.{rules}
 use Rattle.circuit_line.proofs.section.is_possible.Goals as goal
 
 pub returns-in-Inputs : goal.returns-in-Inputs

@@ -1,5 +1,4 @@
 use borrow.Author.Tests.{lt-ltb, le-ltb}
-use borrow.Author.Rules.{rules}
 use Rattle.circuit_line.proofs.section.section_of.Goals as goal
 
 pub returns-then-k-header : goal.returns-then-k-header

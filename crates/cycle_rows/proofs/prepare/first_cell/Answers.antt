@@ -2,7 +2,6 @@ use Prim.Native.Nat.{◌≤◌}
 use mathlib.Core.Path.{subst}
 use native.Mathlib.Omega.{arith}
 use Rattle.meaning.specs.Rows.{Each}
-use borrow.Author.Rules.{rules}
 use Rattle.cycle_rows.proofs.prepare.first_cell.Goals as goal
 
 pub overflow_add-result : goal.overflow_add-result

@@ -1,4 +1,3 @@
-use borrow.Author.Rules.{rules}
 use Rattle.cycle_rows.proofs.prepare.is_next.Goals as goal
 
 pub returns-in-Now : goal.returns-in-Now

@@ -1,11 +1,10 @@
 use Prim.Native.Nat.{suc, ◌+◌, ◌-◌, ◌<◌}
 use mathlib.Core.Path.{◌≡◌, refl, sym, subst, ◌∙◌}
 use native.Mathlib.Omega.{arith}
-use borrow.Author.Tests.{not-true, not-false}
 use Rattle.meaning.specs.Satisfaction.{table_of}
 use Rattle.normal_form.proofs.FormTables.{row_operands, row_signals}
 use Rattle.cycle_rows.specs.Steps.{StepFor}
-use Rattle.cycle_rows.proofs.Order.{NextsTo, OthersTo, nexts_none, nexts_at, nexts_room, nexts_skip, nexts_put, others_none, others_room, others_skip, others_put, steps_all}
+use Rattle.cycle_rows.proofs.Order.{nexts_none, nexts_at, nexts_room, nexts_skip, nexts_put, others_none, others_room, others_skip, others_put, steps_all}
 use borrow.Author.Rules.{rules}
 use Rattle.cycle_rows.proofs.prepare.prepare.Goals as goal
 

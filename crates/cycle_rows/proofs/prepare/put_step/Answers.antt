@@ -2,7 +2,6 @@ use Prim.Native.Nat.{◌+◌}
 use mathlib.Core.Path.{◌∙◌}
 use lib.ListN.{length-set}
 use Rattle.cycle_rows.proofs.Steps.{bytes_size, step_put, step_stays}
-use borrow.Author.Rules.{rules}
 use Rattle.cycle_rows.proofs.prepare.put_step.Goals as goal
 
 pub returns : goal.returns

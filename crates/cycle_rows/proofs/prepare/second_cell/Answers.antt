@@ -2,7 +2,6 @@ use Prim.Native.Nat.{◌≤◌}
 use mathlib.Core.Path.{subst}
 use native.Mathlib.Omega.{arith}
 use Rattle.meaning.specs.Rows.{Each, EachSignal}
-use borrow.Author.Rules.{rules}
 use Rattle.cycle_rows.proofs.prepare.second_cell.Goals as goal
 
 pub overflow_sub-result : goal.overflow_sub-result

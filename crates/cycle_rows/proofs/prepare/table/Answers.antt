@@ -1,4 +1,4 @@
-use Prim.Native.Nat.{ℕ, suc, ◌-◌, ◌≤◌}
+use Prim.Native.Nat.{ℕ, suc, ◌-◌}
 use mathlib.Core.Path.{◌≡◌, subst⁻¹, subst}
 use native.Mathlib.Omega.{arith}
 use Rattle.cycle_rows.proofs.Cases.{CasesFrom, cases_none, cases_all, cases_more, byte_most}

@@ -1,8 +1,5 @@
-use Prim.Native.Nat.{ℕ, suc, ◌-◌, ◌≤◌}
-use mathlib.Core.Path.{◌≡◌, subst⁻¹, subst}
-use native.Mathlib.Omega.{arith}
-use Rattle.cycle_rows.proofs.Cases.{CasesFrom, cases_none, cases_all, cases_more, byte_most}
-use borrow.Author.Rules.{rules}
+use Prim.Native.Nat.{◌-◌, ◌≤◌}
+use Rattle.cycle_rows.proofs.Cases.{CasesFrom}
 use Rattle.cycle_rows.proofs.prepare.table.Given as goal
 
 abbrev pub invariant-loop-m : goal.invariant-loop-m

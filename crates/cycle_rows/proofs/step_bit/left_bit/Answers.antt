@@ -1,7 +1,6 @@
 use mathlib.Core.Path.{ap, ◌∙◌}
 use Rattle.cycle_rows.specs.Steps.{left_constant}
 use Rattle.cycle_rows.proofs.ByKind.{left_constant_lem}
-use borrow.Author.Rules.{rules}
 use Rattle.cycle_rows.proofs.step_bit.left_bit.Goals as goal
 
 pub returns-in-Unary : goal.returns-in-Unary

@@ -1,5 +1,4 @@
 use Rattle.cycle_rows.proofs.ByKind.{release_bit}
-use borrow.Author.Rules.{rules}
 use Rattle.cycle_rows.proofs.step_bit.pattern_bit.Goals as goal
 
 pub returns-then-either : goal.returns-then-either

@@ -1,4 +1,3 @@
-use borrow.Author.Rules.{rules}
 use Rattle.cycle_rows.proofs.step_bit.step_bit.Goals as goal
 
 pub returns : goal.returns

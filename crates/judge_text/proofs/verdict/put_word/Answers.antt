@@ -1,5 +1,4 @@
 use native.Mathlib.Omega.{arith}
-use borrow.Author.Rules.{rules}
 use Rattle.judge_text.proofs.verdict.put_word.Goals as goal
 
 pub returns-in-Holds : goal.returns-in-Holds

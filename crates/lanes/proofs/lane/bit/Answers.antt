@@ -1,6 +1,5 @@
 use mathlib.Core.Path.{refl}
 use Rattle.tables.specs.Bit.{bit_at}
-use borrow.Author.Rules.{rules}
 use Rattle.lanes.proofs.lane.bit.Goals as goal
 
 pub returns : goal.returns

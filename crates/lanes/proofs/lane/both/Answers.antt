@@ -1,5 +1,4 @@
 use Rattle.lanes.proofs.Masks.{lane_masked}
-use borrow.Author.Rules.{rules}
 use Rattle.lanes.proofs.lane.both.Goals as goal
 
 pub returns : goal.returns

@@ -1,5 +1,4 @@
 use Rattle.lanes.proofs.LaneWords.{lane_carry}
-use borrow.Author.Rules.{rules}
 use Rattle.lanes.proofs.lane.carry.Goals as goal
 
 pub returns : goal.returns

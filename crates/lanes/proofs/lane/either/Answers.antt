@@ -2,7 +2,6 @@ use mathlib.Core.Bool.{◌||◌}
 use lib.Bits.{bit_or}
 use Rattle.lanes.proofs.Words.{word_or}
 use Rattle.lanes.proofs.LaneWords.{lane_pointwise}
-use borrow.Author.Rules.{rules}
 use Rattle.lanes.proofs.lane.either.Goals as goal
 
 pub returns : goal.returns

@@ -1,7 +1,6 @@
 use mathlib.Core.Path.{ap, ◌∙◌, fun_ext}
 use Rattle.tables.specs.Bit.{lane_of}
 use Rattle.lanes.proofs.LaneWords.{last_cycle}
-use borrow.Author.Rules.{rules}
 use Rattle.lanes.proofs.lane.last.Goals as goal
 
 pub returns : goal.returns

@@ -1,5 +1,4 @@
 use Rattle.lanes.proofs.LaneWords.{lane_next}
-use borrow.Author.Rules.{rules}
 use Rattle.lanes.proofs.lane.next.Goals as goal
 
 pub returns : goal.returns

@@ -2,7 +2,6 @@ use mathlib.Core.Path.{ap, ◌∙◌}
 use Rattle.tables.specs.Bit.{marked}
 use Rattle.tables.proofs.Bits.{mark_room, lane_marked}
 use Rattle.lanes.proofs.LaneWords.{one_more}
-use borrow.Author.Rules.{rules}
 use Rattle.lanes.proofs.lane.single.Goals as goal
 
 pub with_bit-requires : goal.with_bit-requires

@@ -3,7 +3,6 @@ use mathlib.Core.Bool.{not, ◌&&◌}
 use lib.Bits.{bit_and, and_le_l}
 use Rattle.lanes.proofs.Words.{word_without}
 use Rattle.lanes.proofs.LaneWords.{lane_pointwise}
-use borrow.Author.Rules.{rules}
 use Rattle.lanes.proofs.lane.without.Goals as goal
 
 pub overflow_sub-result : goal.overflow_sub-result

@@ -1,5 +1,4 @@
 use Rattle.lanes.proofs.Carries.{carried_bit_on, carried_bit_off}
-use borrow.Author.Rules.{rules}
 use Rattle.lanes.proofs.word.carry_from.Goals as goal
 
 pub returns-then-later-eq1 : goal.returns-then-later-eq1

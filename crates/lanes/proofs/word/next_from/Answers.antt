@@ -1,5 +1,4 @@
 use Rattle.lanes.proofs.Words.{next_on, next_off}
-use borrow.Author.Rules.{rules}
 use Rattle.lanes.proofs.word.next_from.Goals as goal
 
 pub returns-then-later-eq1 : goal.returns-then-later-eq1

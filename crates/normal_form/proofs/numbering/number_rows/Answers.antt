@@ -2,8 +2,7 @@ use mathlib.Core.Path.{sym, refl, ◌∙◌}
 use Prim.Native.Nat.{◌-◌}
 use native.Mathlib.Omega.{arith}
 use Rattle.normal_form.proofs.Operands.{slot_row_fits}
-use Rattle.normal_form.proofs.NumberLoop.{ListedAt, list_start, list_room, list_free, list_shared, list_own, list_end}
-use borrow.Author.Rules.{rules}
+use Rattle.normal_form.proofs.NumberLoop.{list_start, list_room, list_free, list_shared, list_own, list_end}
 use Rattle.normal_form.proofs.numbering.number_rows.Goals as goal
 
 pub overflow_cast-end : goal.overflow_cast-end

@@ -1,5 +1,4 @@
 use Rattle.normal_form.proofs.Operands.{alike_signed, alike_operand}
-use borrow.Author.Rules.{rules}
 use Rattle.normal_form.proofs.numbering.own_row.Goals as goal
 
 pub renumber-requires : goal.renumber-requires

@@ -2,7 +2,6 @@ use mathlib.Core.Path.{refl, subst}
 use mathlib.Core.Logic.{inl, inr}
 use native.Mathlib.Omega.{arith}
 use Rattle.normal_form.specs.Operand.{Below}
-use borrow.Author.Rules.{rules}
 use Rattle.normal_form.proofs.numbering.renumber.Goals as goal
 
 pub slot-i-requires : goal.slot-i-requires

@@ -1,7 +1,6 @@
 use native.Mathlib.Omega.{arith}
 use Rattle.tables.specs.Kind.{first_number}
 use Rattle.normal_form.proofs.Operands.{not_operand}
-use borrow.Author.Rules.{rules}
 use Rattle.normal_form.proofs.numbering.shared_number.Goals as goal
 
 pub slot-i-requires : goal.slot-i-requires

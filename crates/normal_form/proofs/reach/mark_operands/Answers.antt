@@ -2,7 +2,6 @@ use mathlib.Core.Path.{subst, refl}
 use mathlib.Core.Logic.{inl, inr}
 use native.Mathlib.Omega.{arith}
 use Rattle.normal_form.specs.Operand.{Below}
-use borrow.Author.Rules.{rules}
 use Rattle.normal_form.proofs.reach.mark_operands.Goals as goal
 
 pub slot-i-requires : goal.slot-i-requires

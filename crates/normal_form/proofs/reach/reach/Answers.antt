@@ -5,7 +5,7 @@ use native.Mathlib.Omega.{arith}
 use lib.ListN.{set}
 use Rattle.normal_form.specs.Reach.{marked_down, no_marks, reach}
 use Rattle.normal_form.proofs.Operands.{slot_row_fits}
-use Rattle.normal_form.proofs.MarkLoop.{DownAt, down_start, down_marked, down_free, down_end}
+use Rattle.normal_form.proofs.MarkLoop.{down_start, down_marked, down_free, down_end}
 use borrow.Author.Rules.{rules}
 use Rattle.normal_form.proofs.reach.reach.Goals as goal
 

@@ -1,4 +1,3 @@
-use borrow.Author.Rules.{rules}
 use Rattle.normal_form.proofs.row.signed_row.Goals as goal
 
 pub returns-in-Negated : goal.returns-in-Negated

@@ -1,7 +1,6 @@
 use mathlib.Core.Path.{ap}
 use native.Mathlib.Omega.{arith}
 use Rattle.normal_form.specs.Sign.{place}
-use borrow.Author.Rules.{rules}
 use Rattle.normal_form.proofs.sign.slot.Goals as goal
 
 pub returns-in-Plain : goal.returns-in-Plain

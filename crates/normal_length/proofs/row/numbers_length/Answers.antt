@@ -1,6 +1,5 @@
 use native.Mathlib.Omega.{arith}
 use lib.ListN.{length-append}
-use borrow.Author.Rules.{rules}
 use Rattle.normal_length.proofs.row.numbers_length.Goals as goal
 
 pub returns-in-Signal : goal.returns-in-Signal

@@ -1,9 +1,9 @@
 use Prim.Native.Nat.{◌-◌}
-use mathlib.Core.Path.{◌≡◌, sym, ◌∙◌}
-use lib.ListN.{length, get_or, length-map}
+use mathlib.Core.Path.{◌≡◌}
+use lib.ListN.{length, get_or}
 use Rattle.rule_file.specs.Rule.{in_place, unused}
 use native.Mathlib.Omega.{arith}
-use Rattle.normal_length.proofs.Rows.{Counted, none_counted, one_counted, all_counted, length_there, length_short}
+use Rattle.normal_length.proofs.Rows.{none_counted, one_counted, all_counted, length_there, length_short}
 use borrow.Author.Rules.{rules}
 use Rattle.normal_length.proofs.row.rows_length.Goals as goal
 
@@ -34,5 +34,7 @@ loop-k-preserved c =
     c.number_length.ensures.length.0 c.number_length.ensures.length.1 word c.numbers_length.ensures.length.0 c.numbers_length.ensures.length.1
 
 pub returns : goal.returns
-returns c = record { length = let e : length c.args.form.places ≡ 128 = search rules in
-    (all_counted c.loop-k.invariant (omega arith) (omega arith), omega (arith, c.loop-k.invariant.short, c.loop-k.invariant.within)) }
+returns c = record {
+  length = let e : length c.args.form.places ≡ 128 = search rules in
+      (all_counted c.loop-k.invariant (omega arith) (omega arith), omega (arith, c.loop-k.invariant.short, c.loop-k.invariant.within));
+}

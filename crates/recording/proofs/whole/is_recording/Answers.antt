@@ -1,29 +1,33 @@
-use Prim.Native.Nat.{◌-◌, ◌*◌, ◌≤◌}
+use Prim.Native.Nat.{◌-◌}
 use mathlib.Core.Path.{refl, sym, ◌∙◌}
 use mathlib.Core.Bool.{false≢true}
 use native.Mathlib.Omega.{arith}
 use borrow.Author.Tests.{not-true, not-false}
 use borrow.Author.Rules.{rules}
-use Rattle.recording.proofs.Bounds.{FitBelow, fit_more, fit_all, recorded_cycles, recorded_signals}
+use Rattle.recording.proofs.Bounds.{fit_more, fit_all, recorded_cycles, recorded_signals}
 use Rattle.recording.proofs.whole.is_recording.Goals as goal
 
 pub loop-block-init : goal.loop-block-init
 loop-block-init c = (search rules, λ i h. absurd (omega arith))
 
 pub returns-then-not-fits : goal.returns-then-not-fits
-returns-then-not-fits c = record { exactly = (
-      λ e. absurd (false≢true e),
-      λ r.
-          let fit = recorded_cycles c.args.words c.args.signals c.args.cycles c.loop-block.block c.cycles_from-left.result r (search rules) c.union.ensures.below (search rules) in
-          sym (not-true c.fits.result c.if-not-fits.true-raw) ∙ c.fits.ensures.answer.1 fit,
-    ) }
+returns-then-not-fits c = record {
+  exactly = (
+    λ e. absurd (false≢true e),
+    λ r.
+        let fit = recorded_cycles c.args.words c.args.signals c.args.cycles c.loop-block.block c.cycles_from-left.result r (search rules) c.union.ensures.below (search rules) in
+        sym (not-true c.fits.result c.if-not-fits.true-raw) ∙ c.fits.ensures.answer.1 fit,
+  );
+}
 
 pub returns-then-union-ne0 : goal.returns-then-union-ne0
-returns-then-union-ne0 c = record { exactly = (
-      λ e. absurd (false≢true e),
-      λ r. absurd (c.if-union-ne0.true
-          (recorded_signals c.args.words c.args.signals c.args.cycles c.loop-block.block c.cycles_from-left.result r (search rules) c.union-in-loop-block.ensures.below (search rules))),
-    ) }
+returns-then-union-ne0 c = record {
+  exactly = (
+    λ e. absurd (false≢true e),
+    λ r. absurd (c.if-union-ne0.true
+        (recorded_signals c.args.words c.args.signals c.args.cycles c.loop-block.block c.cycles_from-left.result r (search rules) c.union-in-loop-block.ensures.below (search rules))),
+  );
+}
 
 pub loop-block-preserved : goal.loop-block-preserved
 loop-block-preserved c =

@@ -1,10 +1,5 @@
 use Prim.Native.Nat.{◌-◌, ◌*◌, ◌≤◌}
-use mathlib.Core.Path.{refl, sym, ◌∙◌}
-use mathlib.Core.Bool.{false≢true}
-use native.Mathlib.Omega.{arith}
-use borrow.Author.Tests.{not-true, not-false}
-use borrow.Author.Rules.{rules}
-use Rattle.recording.proofs.Bounds.{FitBelow, fit_more, fit_all, recorded_cycles, recorded_signals}
+use Rattle.recording.proofs.Bounds.{FitBelow}
 use Rattle.recording.proofs.whole.is_recording.Given as goal
 
 abbrev pub invariant-loop-block : goal.invariant-loop-block

@@ -1,7 +1,5 @@
-use mathlib.Core.Path.{◌≡◌}
 use Prim.Native.Nat.{◌-◌, ◌≤◌}
-use borrow.Author.Rules.{rules}
-use Rattle.recording.proofs.Bounds.{UnionOf, union_none, union_more}
+use Rattle.recording.proofs.Bounds.{UnionOf}
 use Rattle.recording.proofs.whole.union.Given as goal
 
 abbrev pub invariant-loop-i : goal.invariant-loop-i

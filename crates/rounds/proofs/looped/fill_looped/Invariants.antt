@@ -1,19 +1,11 @@
-use Prim.Native.Nat.{ℕ, suc, ◌+◌, ◌-◌, ◌<◌}
-use mathlib.Core.Path.{◌≡◌, refl, subst, subst⁻¹}
-use mathlib.Core.Bool.{Bool, true, false}
-use mathlib.Core.List.{List}
-use native.Mathlib.Omega.{arith}
-use lib.ListN.{replicate}
+use Prim.Native.Nat.{◌-◌, ◌<◌}
+use mathlib.Core.Path.{◌≡◌}
 use Rattle.tables.specs.declared.trace.Ending.TheVariants.{Loop}
 use Rattle.tables.specs.declared.trace.Trace.{Trace}
-use Rattle.tables.proofs.Places.{replicate_at}
 use Rattle.meaning.specs.Covers.{CoversIn}
 use Rattle.normal_form.specs.Form.{InNormalForm}
-use Rattle.cycle_rows.specs.Cells.{row_cell}
-use Rattle.rounds.specs.Recorded.{RoundBack, SpreadTo, given_from}
-use Rattle.rounds.proofs.Start.{nothing_recorded}
-use Rattle.rounds.proofs.Loops.{Looping, loop_within, loop_first, loop_more, loop_few, loop_answered, go_on, ended}
-use borrow.Author.Rules.{rules}
+use Rattle.rounds.specs.Recorded.{SpreadTo}
+use Rattle.rounds.proofs.Loops.{Looping}
 use Rattle.rounds.proofs.looped.fill_looped.Given as goal
 
 abbrev pub invariant-loop-done : goal.invariant-loop-done

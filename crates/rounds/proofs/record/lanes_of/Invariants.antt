@@ -1,6 +1,5 @@
 use Prim.Native.Nat.{◌-◌}
-use Rattle.rounds.proofs.Words.{LanesTo, lanes_start, lanes_more, lanes_end}
-use borrow.Author.Rules.{rules}
+use Rattle.rounds.proofs.Words.{LanesTo}
 use Rattle.rounds.proofs.record.lanes_of.Given as goal
 
 abbrev pub invariant-loop-k : goal.invariant-loop-k

@@ -1,6 +1,6 @@
-use Prim.Native.Nat.{◌-◌, ◌≤◌}
+use Prim.Native.Nat.{◌-◌}
 use native.Mathlib.Omega.{arith}
-use Rattle.rounds.proofs.Words.{CycleTo, cycle_start, cycle_more, cycle_end}
+use Rattle.rounds.proofs.Words.{cycle_start, cycle_more, cycle_end}
 use borrow.Author.Rules.{rules}
 use Rattle.rounds.proofs.record.record.Goals as goal
 

@@ -1,7 +1,5 @@
 use Prim.Native.Nat.{◌-◌, ◌≤◌}
-use native.Mathlib.Omega.{arith}
-use Rattle.rounds.proofs.Words.{CycleTo, cycle_start, cycle_more, cycle_end}
-use borrow.Author.Rules.{rules}
+use Rattle.rounds.proofs.Words.{CycleTo}
 use Rattle.rounds.proofs.record.record.Given as goal
 
 abbrev pub invariant-loop-k : goal.invariant-loop-k

@@ -2,7 +2,6 @@ use mathlib.Core.Path.{◌≡◌, refl}
 use mathlib.Core.Bool.{Bool, true, false}
 use native.Mathlib.Omega.{arith}
 use mir.Val.{bool_byte}
-use borrow.Author.Rules.{rules}
 use Rattle.tables.specs.Choice.{pick}
 use Rattle.tables.proofs.Bits.{digit}
 use Rattle.rounds.proofs.record.with_lowest.Goals as goal

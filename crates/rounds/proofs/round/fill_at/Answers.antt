@@ -1,9 +1,10 @@
 use native.Mathlib.Omega.{arith}
 use Rattle.cycle_rows.proofs.Only.{cycle_alike}
-use borrow.Author.Rules.{rules}
 use Rattle.rounds.proofs.round.fill_at.Goals as goal
 
 pub returns : goal.returns
-returns c = record { filled = λ g ok e s.
-    cycle_alike g ok _ _ (record { signals = λ i a b. c.put_signals.ensures.put _ (omega arith) }) _ _
-    (λ k h. c.put_signals.ensures.rows _ (omega arith)) _ (c.fill_cycle.ensures.filled g ok e s).rows }
+returns c = record {
+  filled = λ g ok e s.
+      cycle_alike g ok _ _ (record { signals = λ i a b. c.put_signals.ensures.put _ (omega arith) }) _ _
+      (λ k h. c.put_signals.ensures.rows _ (omega arith)) _ (c.fill_cycle.ensures.filled g ok e s).rows;
+}

@@ -1,14 +1,9 @@
-use Prim.Native.Nat.{ℕ, suc, ◌-◌, ◌≤◌}
+use Prim.Native.Nat.{ℕ, suc, ◌-◌}
 use mathlib.Core.Path.{◌≡◌, subst, subst⁻¹}
 use native.Mathlib.Omega.{arith}
-use Rattle.tables.specs.declared.row.NormalForm.{NormalForm}
-use Rattle.normal_form.specs.Form.{InNormalForm}
 use Rattle.cycle_rows.specs.Cells.{row_cell}
-use Rattle.cycle_rows.specs.Steps.{StepsOf}
-use Rattle.rounds.specs.Rounds.{Columns}
-use Rattle.rounds.specs.Recorded.{RecordedFrom, RoundBack, given_from}
+use Rattle.rounds.specs.Recorded.{RoundBack, given_from}
 use Rattle.rounds.proofs.Back.{back_none, back_more}
-use borrow.Author.Rules.{rules}
 use Rattle.rounds.proofs.round.go_back.Goals as goal
 
 pub loop-c-init : goal.loop-c-init
@@ -32,6 +27,8 @@ loop-c-preserved c = let at : ℕ = c.loop-c.c in
     )
 
 pub returns : goal.returns
-returns c = record { gone = λ g ok e s n later h f r.
-    let z : c.loop-c.c ≡ c.args.from = omega (arith, c.loop-c.invariant.0) in
-    subst (λ y. RoundBack g (given_from c.args.digits.now) n y c.args.to later (row_cell c.loop-c.cells) c.loop-c.words) z (c.loop-c.invariant.2 g ok e s n later h f r) }
+returns c = record {
+  gone = λ g ok e s n later h f r.
+      let z : c.loop-c.c ≡ c.args.from = omega (arith, c.loop-c.invariant.0) in
+      subst (λ y. RoundBack g (given_from c.args.digits.now) n y c.args.to later (row_cell c.loop-c.cells) c.loop-c.words) z (c.loop-c.invariant.2 g ok e s n later h f r);
+}

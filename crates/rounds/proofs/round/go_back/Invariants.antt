@@ -1,14 +1,11 @@
-use Prim.Native.Nat.{ℕ, suc, ◌-◌, ◌≤◌}
-use mathlib.Core.Path.{◌≡◌, subst, subst⁻¹}
-use native.Mathlib.Omega.{arith}
+use Prim.Native.Nat.{ℕ, ◌-◌, ◌≤◌}
+use mathlib.Core.Path.{◌≡◌}
 use Rattle.tables.specs.declared.row.NormalForm.{NormalForm}
 use Rattle.normal_form.specs.Form.{InNormalForm}
 use Rattle.cycle_rows.specs.Cells.{row_cell}
 use Rattle.cycle_rows.specs.Steps.{StepsOf}
 use Rattle.rounds.specs.Rounds.{Columns}
 use Rattle.rounds.specs.Recorded.{RecordedFrom, RoundBack, given_from}
-use Rattle.rounds.proofs.Back.{back_none, back_more}
-use borrow.Author.Rules.{rules}
 use Rattle.rounds.proofs.round.go_back.Given as goal
 
 abbrev pub invariant-loop-c : goal.invariant-loop-c

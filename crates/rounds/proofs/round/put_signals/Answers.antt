@@ -1,7 +1,7 @@
-use Prim.Native.Nat.{◌-◌, ◌≤◌}
+use Prim.Native.Nat.{◌-◌}
 use mathlib.Core.Path.{refl}
 use native.Mathlib.Omega.{arith}
-use Rattle.rounds.proofs.Signals.{PutTo, put_more}
+use Rattle.rounds.proofs.Signals.{put_more}
 use borrow.Author.Rules.{rules}
 use Rattle.rounds.proofs.round.put_signals.Goals as goal
 

@@ -1,8 +1,5 @@
 use Prim.Native.Nat.{◌-◌, ◌≤◌}
-use mathlib.Core.Path.{refl}
-use native.Mathlib.Omega.{arith}
-use Rattle.rounds.proofs.Signals.{PutTo, put_more}
-use borrow.Author.Rules.{rules}
+use Rattle.rounds.proofs.Signals.{PutTo}
 use Rattle.rounds.proofs.round.put_signals.Given as goal
 
 abbrev pub invariant-loop-s : goal.invariant-loop-s

@@ -1,8 +1,5 @@
 use Prim.Native.Nat.{◌-◌}
-use native.Mathlib.Omega.{arith}
 use Rattle.rounds.specs.Recorded.{SpreadTo}
-use Rattle.rounds.proofs.Spreading.{spread_more}
-use borrow.Author.Rules.{rules}
 use Rattle.rounds.proofs.spread.spread.Given as goal
 
 abbrev pub invariant-loop-s : goal.invariant-loop-s

@@ -1,5 +1,5 @@
 use Prim.Native.Nat.{◌-◌}
-use Rattle.rounds.proofs.Spreading.{SignalTo, signal_start, signal_more}
+use Rattle.rounds.proofs.Spreading.{signal_start, signal_more}
 use borrow.Author.Rules.{rules}
 use Rattle.rounds.proofs.spread.spread_signal.Goals as goal
 

@@ -1,6 +1,5 @@
 use Prim.Native.Nat.{◌-◌}
-use Rattle.rounds.proofs.Spreading.{SignalTo, signal_start, signal_more}
-use borrow.Author.Rules.{rules}
+use Rattle.rounds.proofs.Spreading.{SignalTo}
 use Rattle.rounds.proofs.spread.spread_signal.Given as goal
 
 abbrev pub invariant-loop-c : goal.invariant-loop-c

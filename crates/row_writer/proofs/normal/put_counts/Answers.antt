@@ -1,7 +1,6 @@
 use native.Mathlib.Omega.{arith}
 use Rattle.text.specs.Written.{decimal, decimal_in, written_body}
 use Rattle.writing.proofs.Texts.{wrote_both}
-use borrow.Author.Rules.{rules}
 use Rattle.row_writer.proofs.normal.put_counts.Goals as goal
 
 pub returns : goal.returns

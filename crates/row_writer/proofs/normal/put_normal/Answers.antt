@@ -1,7 +1,6 @@
 use Rattle.row_writer.specs.Normal.{rows_of, written_normal}
 use Rattle.writing.proofs.Texts.{wrote_both, wrote_is}
 use Rattle.row_writer.proofs.Rows.{counts_front}
-use borrow.Author.Rules.{rules}
 use Rattle.row_writer.proofs.normal.put_normal.Goals as goal
 
 pub returns : goal.returns

@@ -1,9 +1,9 @@
 use Prim.Native.Nat.{◌-◌}
-use mathlib.Core.Path.{◌≡◌, sym, ◌∙◌}
+use mathlib.Core.Path.{◌≡◌}
 use native.Mathlib.Omega.{arith}
-use lib.ListN.{length, length-map}
+use lib.ListN.{length}
 use Rattle.rule_file.specs.Rule.{in_place, unused}
-use Rattle.row_writer.proofs.Rows.{RowsAt, rows_start, rows_more, rows_end}
+use Rattle.row_writer.proofs.Rows.{rows_start, rows_more, rows_end}
 use borrow.Author.Rules.{rules}
 use Rattle.row_writer.proofs.normal.put_rows.Goals as goal
 
@@ -23,5 +23,7 @@ pub shape_of-buf : goal.shape_of-buf
 shape_of-buf c = c.loop-k.invariant.text.size
 
 pub returns : goal.returns
-returns c = record { text = let e : length c.args.form.places ≡ 128 = search rules in
-    rows_end c.loop-k.invariant (omega arith) (omega arith) }
+returns c = record {
+  text = let e : length c.args.form.places ≡ 128 = search rules in
+      rows_end c.loop-k.invariant (omega arith) (omega arith);
+}

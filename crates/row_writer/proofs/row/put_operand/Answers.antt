@@ -1,6 +1,5 @@
 use native.Mathlib.Omega.{arith}
 use Rattle.writing.proofs.Texts.{wrote_both}
-use borrow.Author.Rules.{rules}
 use Rattle.row_writer.proofs.row.put_operand.Goals as goal
 
 pub returns : goal.returns

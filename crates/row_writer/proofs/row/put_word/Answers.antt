@@ -6,7 +6,6 @@ use lib.Seq.{length-take-le}
 use Rattle.tables.specs.Kind.{word_of}
 use Rattle.tables.proofs.KindTable.{word_fits, word_short}
 use Rattle.writing.proofs.Texts.{wrote_is}
-use borrow.Author.Rules.{rules}
 use Rattle.row_writer.proofs.row.put_word.Goals as goal
 
 pub slice_bounds-bytes-end : goal.slice_bounds-bytes-end

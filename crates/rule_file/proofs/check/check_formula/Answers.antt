@@ -4,7 +4,6 @@ use Rattle.rule_row.specs.Row.{row_value}
 use Rattle.rule_file.specs.Written.{rows_of}
 use Rattle.rule_row.specs.Written.{written_row}
 use mathlib.Core.Path.{◌∙◌, sym, ap}
-use lib.ListN.{length-map}
 use Rattle.text.specs.Result.{outcome_of}
 use Rattle.tables.proofs.Choices.{clash}
 use Rattle.text.proofs.Bodies.{outcome_map}

@@ -1,10 +1,5 @@
-use Rattle.tables.proofs.Choices.{clash, know}
-use mathlib.Core.Path.{◌∙◌, sym}
-use Prim.Native.Nat.{◌-◌, ◌<◌}
-use lib.ListN.{length-map}
-use borrow.Author.Tests.{not-true, not-false}
-use Rattle.rule_file.proofs.CheckLoop.{CheckAt, check_start, check_whole, check_passes, check_fails, check_end, all_passed}
-use borrow.Author.Rules.{rules}
+use Prim.Native.Nat.{◌-◌}
+use Rattle.rule_file.proofs.CheckLoop.{CheckAt}
 use Rattle.rule_file.proofs.check.check_rows.Given as goal
 
 abbrev pub invariant-loop-k : goal.invariant-loop-k

@@ -5,7 +5,7 @@ use lib.ListN.{length}
 use Rattle.tables.proofs.Choices.{rest_part}
 use Rattle.text.proofs.Lines.{line_inside}
 use Rattle.rule_row.specs.Row.{row_line_as, reason_of}
-use Rattle.rule_file.proofs.RowLoop.{RowsAt, rows_start, places_long, rows_refused, rows_more, rows_surplus, rows_end}
+use Rattle.rule_file.proofs.RowLoop.{rows_start, places_long, rows_refused, rows_more, rows_surplus, rows_end}
 use borrow.Author.Rules.{rules}
 use Rattle.rule_file.proofs.rule.read_rows.Goals as goal
 
@@ -13,8 +13,10 @@ pub loop-k-init : goal.loop-k-init
 loop-k-init c = rows_start _ _ _
 
 pub returns-in_default : goal.returns-in_default
-returns-in_default c = record { answer = c.refuse.ensures.answer ∙ rw (c.row_reason.ensures.answer ∙ ap reason_of c.in_default.is) (rows_refused c.loop-k.invariant (search rules) (sym
-    c.row_line-line.ensures.answer ∙ ap row_line_as c.in_default.is)) }
+returns-in_default c = record {
+  answer = c.refuse.ensures.answer ∙ rw (c.row_reason.ensures.answer ∙ ap reason_of c.in_default.is) (rows_refused c.loop-k.invariant (search rules) (sym
+      c.row_line-line.ensures.answer ∙ ap row_line_as c.in_default.is));
+}
 
 pub bounds-places-k : goal.bounds-places-k
 bounds-places-k c = let e : length c.loop-k.places ≡ 64 = places_long c.loop-k.invariant in omega arith

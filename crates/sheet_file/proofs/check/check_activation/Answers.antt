@@ -3,7 +3,6 @@ use Prim.Native.Nat.{◌<◌}
 use lib.ListN.{length}
 use Rattle.tables.specs.declared.trace.Activation.{Activation}
 use mathlib.Core.Path.{◌∙◌, ap, sym}
-use lib.ListN.{length-map}
 use Rattle.text.specs.Result.{outcome_of}
 use Rattle.sheet_file.proofs.Sheets.{rows_below, rows_above, cycles_below_lem, cycles_above, sheet_in_range, told}
 use borrow.Author.Rules.{rules}

@@ -1,5 +1,4 @@
 use Rattle.sheet_file.proofs.Rows.{row_lane_lem}
-use borrow.Author.Rules.{rules}
 use Rattle.sheet_file.proofs.row.digits_to_lane.Goals as goal
 
 pub returns : goal.returns

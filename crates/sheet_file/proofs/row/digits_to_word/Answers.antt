@@ -1,9 +1,6 @@
-use mathlib.Core.Bool.{false}
 use native.Mathlib.Omega.{arith}
-use lib.ListN.{get_or}
 use borrow.Author.Rules.{rules}
-use Rattle.text.specs.Digits.{digits_in}
-use Rattle.sheet_file.proofs.Rows.{WordAt, word_start, word_room, digit_more, word_end}
+use Rattle.sheet_file.proofs.Rows.{word_start, word_room, digit_more, word_end}
 use Rattle.sheet_file.proofs.row.digits_to_word.Goals as goal
 
 pub loop-left-init : goal.loop-left-init

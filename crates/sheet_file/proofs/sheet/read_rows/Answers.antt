@@ -1,10 +1,9 @@
 use Prim.Native.Nat.{◌-◌}
-use mathlib.Core.Path.{◌≡◌, ◌∙◌}
+use mathlib.Core.Path.{◌∙◌}
 use native.Mathlib.Omega.{arith}
-use lib.ListN.{length}
 use Rattle.tables.proofs.Choices.{rest_part}
 use Rattle.text.proofs.DigitLines.{digits_within}
-use Rattle.sheet_file.proofs.Reading.{RowsAt, rows_start, row_fits, rows_length_lem, rows_wrong, rows_more, rows_end, rows_surplus}
+use Rattle.sheet_file.proofs.Reading.{rows_start, row_fits, rows_length_lem, rows_wrong, rows_more, rows_end, rows_surplus}
 use borrow.Author.Rules.{rules}
 use Rattle.sheet_file.proofs.sheet.read_rows.Goals as goal
 

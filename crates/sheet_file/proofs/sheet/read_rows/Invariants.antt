@@ -1,11 +1,7 @@
 use Prim.Native.Nat.{◌-◌}
-use mathlib.Core.Path.{◌≡◌, ◌∙◌}
-use native.Mathlib.Omega.{arith}
+use mathlib.Core.Path.{◌≡◌}
 use lib.ListN.{length}
-use Rattle.tables.proofs.Choices.{rest_part}
-use Rattle.text.proofs.DigitLines.{digits_within}
-use Rattle.sheet_file.proofs.Reading.{RowsAt, rows_start, row_fits, rows_length_lem, rows_wrong, rows_more, rows_end, rows_surplus}
-use borrow.Author.Rules.{rules}
+use Rattle.sheet_file.proofs.Reading.{RowsAt}
 use Rattle.sheet_file.proofs.sheet.read_rows.Given as goal
 
 abbrev pub invariant-loop-k : goal.invariant-loop-k

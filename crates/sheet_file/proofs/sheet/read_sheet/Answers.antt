@@ -12,14 +12,13 @@ use Rattle.sheet_file.proofs.sheet.read_sheet.Goals as goal
 
 -- The ranges come first: a count that the code lets through beyond its range fails here.
 pub read_rows-requires : goal.read_rows-requires
-read_rows-requires c =
-    (
-      omega (arith, (counted _ _ _ _ _ c.count_line-second.ensures.answer c.in-Count-second.is).1),
-      omega (
-        arith,
-        (counted _ _ _ _ _ c.count_line-third.ensures.answer c.in-Count-third.is).1,
-      ),
-    )
+read_rows-requires c = (
+  omega (arith, (counted _ _ _ _ _ c.count_line-second.ensures.answer c.in-Count-second.is).1),
+  omega (
+    arith,
+    (counted _ _ _ _ _ c.count_line-third.ensures.answer c.in-Count-third.is).1,
+  ),
+)
 
 pub returns-then-file-gt65536 : goal.returns-then-file-gt65536
 unfolding parse_sheet
@@ -27,12 +26,14 @@ returns-then-file-gt65536 c = record { answer = c.refuse.ensures.answer ∙ rw (
 
 pub returns-in_default : goal.returns-in_default
 unfolding parse_sheet
-returns-in_default c = record { answer = c.refuse-in_default.ensures.answer ∙ rw (
-      le-ltb _ _ c.if-file-gt65536.false,
-      counted_wrong c.count_line-first.ensures.answer c.in_default.is,
-      c.count_reason.ensures.answer ∙
-          ap reason_of c.in_default.is,
-    ) }
+returns-in_default c = record {
+  answer = c.refuse-in_default.ensures.answer ∙ rw (
+    le-ltb _ _ c.if-file-gt65536.false,
+    counted_wrong c.count_line-first.ensures.answer c.in_default.is,
+    c.count_reason.ensures.answer ∙
+        ap reason_of c.in_default.is,
+  );
+}
 
 pub slice_bounds-after_format-count : goal.slice_bounds-after_format-count
 slice_bounds-after_format-count c = (counted _ _ _ _ _ c.count_line-first.ensures.answer c.in-Count.is).2
@@ -42,12 +43,14 @@ slice_bounds-after_format-start c = (counted _ _ _ _ _ c.count_line-first.ensure
 
 pub returns-in_default-second : goal.returns-in_default-second
 unfolding parse_sheet
-returns-in_default-second c = record { answer = c.refuse-in_default-second.ensures.answer ∙ rw (
-      le-ltb _ _ c.if-file-gt65536.false,
-      counted_is c.count_line-first.ensures.answer c.in-Count.is,
-      counted_wrong (rw rest_part at c.count_line-second.ensures.answer) c.in_default-second.is,
-      c.count_reason-in_default-second.ensures.answer ∙ ap reason_of c.in_default-second.is,
-    ) }
+returns-in_default-second c = record {
+  answer = c.refuse-in_default-second.ensures.answer ∙ rw (
+    le-ltb _ _ c.if-file-gt65536.false,
+    counted_is c.count_line-first.ensures.answer c.in-Count.is,
+    counted_wrong (rw rest_part at c.count_line-second.ensures.answer) c.in_default-second.is,
+    c.count_reason-in_default-second.ensures.answer ∙ ap reason_of c.in_default-second.is,
+  );
+}
 
 pub slice_bounds-after_rows-count : goal.slice_bounds-after_rows-count
 slice_bounds-after_rows-count c = (counted _ _ _ _ _ c.count_line-second.ensures.answer c.in-Count-second.is).2
@@ -57,13 +60,15 @@ slice_bounds-after_rows-start c = (counted _ _ _ _ _ c.count_line-second.ensures
 
 pub returns-in_default-third : goal.returns-in_default-third
 unfolding parse_sheet
-returns-in_default-third c = record { answer = c.refuse-in_default-third.ensures.answer ∙ rw (
-      le-ltb _ _ c.if-file-gt65536.false,
-      counted_is c.count_line-first.ensures.answer c.in-Count.is,
-      counted_is (rw rest_part at c.count_line-second.ensures.answer) c.in-Count-second.is,
-      counted_wrong (rw (rest_part, rest_part) at c.count_line-third.ensures.answer) c.in_default-third.is,
-      c.count_reason-in_default-third.ensures.answer ∙ ap reason_of c.in_default-third.is,
-    ) }
+returns-in_default-third c = record {
+  answer = c.refuse-in_default-third.ensures.answer ∙ rw (
+    le-ltb _ _ c.if-file-gt65536.false,
+    counted_is c.count_line-first.ensures.answer c.in-Count.is,
+    counted_is (rw rest_part at c.count_line-second.ensures.answer) c.in-Count-second.is,
+    counted_wrong (rw (rest_part, rest_part) at c.count_line-third.ensures.answer) c.in_default-third.is,
+    c.count_reason-in_default-third.ensures.answer ∙ ap reason_of c.in_default-third.is,
+  );
+}
 
 pub slice_bounds-read_rows-count : goal.slice_bounds-read_rows-count
 slice_bounds-read_rows-count c = (counted _ _ _ _ _ c.count_line-third.ensures.answer c.in-Count-third.is).2
@@ -73,9 +78,11 @@ slice_bounds-read_rows-start c = (counted _ _ _ _ _ c.count_line-third.ensures.a
 
 pub returns : goal.returns
 unfolding parse_sheet
-returns c = record { answer = rw (rest_part, rest_part, rest_part) at c.read_rows.ensures.answer ∙ rw (
-      le-ltb _ _ c.if-file-gt65536.false,
-      counted_is c.count_line-first.ensures.answer c.in-Count.is,
-      counted_is (rw rest_part at c.count_line-second.ensures.answer) c.in-Count-second.is,
-      counted_is (rw (rest_part, rest_part) at c.count_line-third.ensures.answer) c.in-Count-third.is,
-    ) }
+returns c = record {
+  answer = rw (rest_part, rest_part, rest_part) at c.read_rows.ensures.answer ∙ rw (
+    le-ltb _ _ c.if-file-gt65536.false,
+    counted_is c.count_line-first.ensures.answer c.in-Count.is,
+    counted_is (rw rest_part at c.count_line-second.ensures.answer) c.in-Count-second.is,
+    counted_is (rw (rest_part, rest_part) at c.count_line-third.ensures.answer) c.in-Count-third.is,
+  );
+}

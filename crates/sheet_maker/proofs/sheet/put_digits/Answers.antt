@@ -1,16 +1,13 @@
-use Prim.Native.Nat.{◌+◌, ◌-◌, ◌≤◌}
-use mathlib.Core.Path.{◌≡◌, ap, ◌∙◌}
+use Prim.Native.Nat.{◌+◌, ◌-◌}
+use mathlib.Core.Path.{ap, ◌∙◌}
 use mathlib.Core.List.{[], ◌∷◌, ◌++◌}
 use native.Mathlib.Omega.{arith}
 use Rattle.tables.specs.Bit.{bit_at}
 use Rattle.tables.specs.Place.{tabulate, tabulate_from}
 use Rattle.text.specs.Written.{digits_text}
-use Rattle.writing.specs.Lent.{Wrote}
 use Rattle.writing.proofs.Texts.{wrote_none, wrote_both, wrote_is}
 use Rattle.sheet_maker.proofs.Texts.{digits_next}
-use borrow.Author.Rules.{rules}
 use Rattle.tables.specs.Choice.{pick}
-use borrow.Author.Rules.{rules}
 use Rattle.sheet_maker.proofs.sheet.put_digits.Goals as goal
 
 pub loop-c-init : goal.loop-c-init

@@ -1,11 +1,8 @@
-use Prim.Native.Nat.{◌+◌, ◌-◌, ◌≤◌}
-use mathlib.Core.Path.{◌≡◌, sym, ap, ◌∙◌}
+use Prim.Native.Nat.{◌+◌, ◌-◌}
+use mathlib.Core.Path.{ap}
 use mathlib.Core.List.{[]}
 use native.Mathlib.Omega.{arith}
-use lib.ListN.{take, length-map}
 use Rattle.text.specs.Written.{digits_text, written_body}
-use Rattle.sheet_file.specs.Written.{rows_of}
-use Rattle.writing.specs.Lent.{Wrote}
 use Rattle.writing.proofs.Texts.{wrote_none, wrote_both, wrote_is}
 use Rattle.sheet_maker.specs.Length.{rows_length}
 use Rattle.sheet_maker.proofs.Texts.{rows_next, rows_all}

@@ -1,16 +1,10 @@
 use Prim.Native.Nat.{◌+◌, ◌-◌, ◌≤◌}
-use mathlib.Core.Path.{◌≡◌, sym, ap, ◌∙◌}
-use mathlib.Core.List.{[]}
-use native.Mathlib.Omega.{arith}
-use lib.ListN.{take, length-map}
+use mathlib.Core.Path.{◌≡◌}
+use lib.ListN.{take}
 use Rattle.text.specs.Written.{digits_text, written_body}
 use Rattle.sheet_file.specs.Written.{rows_of}
 use Rattle.writing.specs.Lent.{Wrote}
-use Rattle.writing.proofs.Texts.{wrote_none, wrote_both, wrote_is}
 use Rattle.sheet_maker.specs.Length.{rows_length}
-use Rattle.sheet_maker.proofs.Texts.{rows_next, rows_all}
-use Rattle.sheet_maker.proofs.Lengths.{rows_length_next, rows_length_before}
-use borrow.Author.Rules.{rules}
 use Rattle.sheet_maker.proofs.sheet.put_rows.Given as goal
 
 abbrev pub invariant-loop-k : goal.invariant-loop-k

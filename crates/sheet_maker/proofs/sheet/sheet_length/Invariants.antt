@@ -1,10 +1,8 @@
-use mathlib.Core.Path.{◌≡◌, ap, ◌∙◌}
+use mathlib.Core.Path.{◌≡◌}
 use Prim.Native.Nat.{◌+◌, ◌*◌, ◌-◌, ◌≤◌}
-use native.Mathlib.Omega.{arith}
 use lib.ListN.{length}
 use Rattle.text.specs.Written.{decimal}
 use Rattle.sheet_maker.specs.Length.{rows_length}
-use Rattle.sheet_maker.proofs.Lengths.{rows_length_next}
 use Rattle.sheet_maker.proofs.sheet.sheet_length.Given as goal
 
 abbrev pub invariant-loop-k : goal.invariant-loop-k

@@ -1,7 +1,6 @@
 use mathlib.Core.Path.{◌∙◌}
 use Rattle.tables.specs.Kind.{dual_of}
 use Rattle.tables.proofs.KindTable.{partner_below}
-use borrow.Author.Rules.{rules}
 use Rattle.tables.proofs.kind.dual.Goals as goal
 
 pub kind_at-partner-requires : goal.kind_at-partner-requires
@@ -9,10 +8,12 @@ kind_at-partner-requires c = rw c.kind_at-kind.ensures.kind (partner_below _ c.p
 
 pub returns : goal.returns
 unfolding dual_of
-returns c = record { answer = c.with_numbers.ensures.answer ∙ rw (
-      c.kind_at-partner.ensures.kind,
-      c.kind_at-kind.ensures.kind,
-      c.place_of.ensures.place.0,
-      c.first_number.ensures.answer,
-      c.second_number.ensures.answer,
-    ) }
+returns c = record {
+  answer = c.with_numbers.ensures.answer ∙ rw (
+    c.kind_at-partner.ensures.kind,
+    c.kind_at-kind.ensures.kind,
+    c.place_of.ensures.place.0,
+    c.first_number.ensures.answer,
+    c.second_number.ensures.answer,
+  );
+}

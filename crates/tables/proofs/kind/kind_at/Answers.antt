@@ -1,6 +1,5 @@
 use mathlib.Core.Path.{refl}
 use Rattle.tables.specs.Kind.{kind_at, kinds}
-use borrow.Author.Rules.{rules}
 use Rattle.tables.proofs.kind.kind_at.Goals as goal
 
 pub returns : goal.returns

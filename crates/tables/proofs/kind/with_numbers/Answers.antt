@@ -1,4 +1,3 @@
-use borrow.Author.Rules.{rules}
 use Rattle.tables.proofs.kind.with_numbers.Goals as goal
 
 pub returns-in-Constant : goal.returns-in-Constant

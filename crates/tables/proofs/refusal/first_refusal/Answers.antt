@@ -1,7 +1,6 @@
 use mathlib.Core.Path.{sym, ap}
 use Rattle.tables.specs.Refusal.{and_then}
 use Rattle.tables.specs.declared.refusal.Outcome.{Outcome}
-use borrow.Author.Rules.{rules}
 use Rattle.tables.proofs.refusal.first_refusal.Goals as goal
 
 pub returns-in-Refused : goal.returns-in-Refused

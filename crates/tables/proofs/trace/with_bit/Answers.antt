@@ -1,5 +1,4 @@
 use Rattle.tables.specs.Bit.{marked}
-use borrow.Author.Rules.{rules}
 use Rattle.tables.proofs.trace.with_bit.Goals as goal
 
 pub returns : goal.returns

@@ -3,8 +3,6 @@ use Prim.Native.Nat.{◌<◌}
 use lib.ListN.{length}
 use Rattle.tables.specs.declared.trace.Trace.{Trace}
 use mathlib.Core.Path.{◌∙◌, ap, sym}
-use lib.ListN.{length-map}
-use borrow.Author.Tests.{not-true, not-false}
 use Rattle.text.specs.Result.{outcome_of}
 use Rattle.tables.proofs.Choices.{know}
 use Rattle.take_file.proofs.Takes.{signals_below, signals_above, cycles_below_lem, cycles_above, loop_beyond, in_range_lem, told}

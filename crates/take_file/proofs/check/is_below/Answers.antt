@@ -1,6 +1,5 @@
 use mathlib.Core.Path.{refl}
 use native.Mathlib.Omega.{arith}
-use borrow.Author.Rules.{rules}
 use Rattle.take_file.proofs.check.is_below.Goals as goal
 
 pub returns-in-Open : goal.returns-in-Open

@@ -4,7 +4,7 @@ use native.Mathlib.Omega.{arith}
 use borrow.Author.Rules.{rules}
 use Rattle.tables.proofs.Choices.{rest_part}
 use Rattle.text.proofs.DigitLines.{digits_within}
-use Rattle.take_file.proofs.Reading.{CyclesAt, cycles_start, cycles_wrong, cycles_room, cycles_more, cycles_end, cycles_surplus}
+use Rattle.take_file.proofs.Reading.{cycles_start, cycles_wrong, cycles_room, cycles_more, cycles_end, cycles_surplus}
 use Rattle.take_file.proofs.take.read_cycles.Goals as goal
 
 pub loop-c-init : goal.loop-c-init

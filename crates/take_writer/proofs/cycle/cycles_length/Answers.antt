@@ -1,6 +1,5 @@
 use native.Mathlib.Nat.{mul-le-mul_right}
 use native.Mathlib.Omega.{arith}
-use borrow.Author.Rules.{rules}
 use Prim.Native.Nat.{◌+◌}
 use Rattle.take_writer.proofs.cycle.cycles_length.Goals as goal
 use Rattle.take_writer.proofs.cycle.cycles_length.Goals.{then-n-gt10, else-n-gt10}

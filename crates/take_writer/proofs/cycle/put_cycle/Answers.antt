@@ -1,6 +1,6 @@
-use mathlib.Core.Path.{◌≡◌, sym, ◌∙◌}
+use mathlib.Core.Path.{◌≡◌}
 use native.Mathlib.Omega.{arith}
-use lib.ListN.{length, length-map}
+use lib.ListN.{length}
 use Rattle.writing.proofs.Texts.{wrote_both, decimal_some}
 use borrow.Author.Rules.{rules}
 use Rattle.take_writer.proofs.Cycles.{cycle_length, cycle_line}

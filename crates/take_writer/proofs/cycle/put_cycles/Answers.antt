@@ -1,9 +1,9 @@
 use Prim.Native.Nat.{◌-◌}
-use mathlib.Core.Path.{◌≡◌, sym, ◌∙◌}
+use mathlib.Core.Path.{◌≡◌}
 use native.Mathlib.Omega.{arith}
-use lib.ListN.{length, length-map}
+use lib.ListN.{length}
 use borrow.Author.Rules.{rules}
-use Rattle.take_writer.proofs.Cycles.{CyclesAt, cycles_start, cycles_room, cycles_more, cycles_end}
+use Rattle.take_writer.proofs.Cycles.{cycles_start, cycles_room, cycles_more, cycles_end}
 use Rattle.take_writer.proofs.cycle.put_cycles.Goals as goal
 
 pub loop-c-init : goal.loop-c-init
@@ -23,5 +23,7 @@ pub shape_of-buf : goal.shape_of-buf
 shape_of-buf c = c.loop-c.invariant.text.size
 
 pub returns : goal.returns
-returns c = record { text = let full : length c.args.trace.lanes ≡ 32 = search rules in
-    cycles_end c.loop-c.invariant full c.requires.0 (omega arith) }
+returns c = record {
+  text = let full : length c.args.trace.lanes ≡ 32 = search rules in
+      cycles_end c.loop-c.invariant full c.requires.0 (omega arith);
+}

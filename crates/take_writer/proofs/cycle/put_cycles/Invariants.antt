@@ -1,9 +1,5 @@
 use Prim.Native.Nat.{◌-◌}
-use mathlib.Core.Path.{◌≡◌, sym, ◌∙◌}
-use native.Mathlib.Omega.{arith}
-use lib.ListN.{length, length-map}
-use borrow.Author.Rules.{rules}
-use Rattle.take_writer.proofs.Cycles.{CyclesAt, cycles_start, cycles_room, cycles_more, cycles_end}
+use Rattle.take_writer.proofs.Cycles.{CyclesAt}
 use Rattle.take_writer.proofs.cycle.put_cycles.Given as goal
 
 abbrev pub invariant-loop-c : goal.invariant-loop-c

@@ -1,12 +1,12 @@
-use Prim.Native.Nat.{◌-◌, ◌≤◌}
+use Prim.Native.Nat.{◌-◌}
 use mathlib.Core.List.{[], ◌∷◌}
-use mathlib.Core.Path.{◌≡◌, sym, ap, ◌∙◌}
+use mathlib.Core.Path.{◌≡◌, ap}
 use native.Mathlib.Omega.{arith}
-use lib.ListN.{length, length-map}
+use lib.ListN.{length}
 use Rattle.tables.specs.Choice.{pick}
 use Rattle.writing.proofs.Texts.{wrote_is}
 use borrow.Author.Rules.{rules}
-use Rattle.take_writer.proofs.Cycles.{DigitsAt, digits_start, digits_more, digits_end}
+use Rattle.take_writer.proofs.Cycles.{digits_start, digits_more, digits_end}
 use Rattle.take_writer.proofs.cycle.put_digits.Goals as goal
 
 pub loop-s-init : goal.loop-s-init

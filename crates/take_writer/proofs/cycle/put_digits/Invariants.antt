@@ -1,12 +1,5 @@
 use Prim.Native.Nat.{◌-◌, ◌≤◌}
-use mathlib.Core.List.{[], ◌∷◌}
-use mathlib.Core.Path.{◌≡◌, sym, ap, ◌∙◌}
-use native.Mathlib.Omega.{arith}
-use lib.ListN.{length, length-map}
-use Rattle.tables.specs.Choice.{pick}
-use Rattle.writing.proofs.Texts.{wrote_is}
-use borrow.Author.Rules.{rules}
-use Rattle.take_writer.proofs.Cycles.{DigitsAt, digits_start, digits_more, digits_end}
+use Rattle.take_writer.proofs.Cycles.{DigitsAt}
 use Rattle.take_writer.proofs.cycle.put_digits.Given as goal
 
 abbrev pub invariant-loop-s : goal.invariant-loop-s

@@ -1,7 +1,6 @@
 use mathlib.Core.Path.{subst}
 use native.Mathlib.Omega.{arith}
 use Rattle.take_file.specs.Valid.{Below}
-use borrow.Author.Rules.{rules}
 use Rattle.take_writer.proofs.ending.ending_length.Goals as goal
 
 pub number_length-requires : goal.number_length-requires

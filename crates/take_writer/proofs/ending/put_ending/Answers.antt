@@ -1,7 +1,6 @@
 use native.Mathlib.Omega.{arith}
 use mathlib.Core.Path.{subst}
 use Rattle.take_file.specs.Valid.{Below}
-use borrow.Author.Rules.{rules}
 use Rattle.take_writer.proofs.ending.put_ending.Goals as goal
 
 pub put_number_line-requires : goal.put_number_line-requires

@@ -1,7 +1,5 @@
-use Prim.Native.Nat.{◌-◌}
-use lib.ListN.{length}
 use borrow.Author.Rules.{rules}
-use Rattle.text.proofs.DigitLines.{DigitsTo, digits_start, digits_more, digits_end}
+use Rattle.text.proofs.DigitLines.{digits_start, digits_more, digits_end}
 use Rattle.text.proofs.digits.are_digits.Goals as goal
 
 pub loop-i-init : goal.loop-i-init

@@ -1,7 +1,6 @@
 use Prim.Native.Nat.{◌-◌}
 use lib.ListN.{length}
-use borrow.Author.Rules.{rules}
-use Rattle.text.proofs.DigitLines.{DigitsTo, digits_start, digits_more, digits_end}
+use Rattle.text.proofs.DigitLines.{DigitsTo}
 use Rattle.text.proofs.digits.are_digits.Given as goal
 
 abbrev pub invariant-loop-i : goal.invariant-loop-i

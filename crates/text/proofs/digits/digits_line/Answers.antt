@@ -1,7 +1,6 @@
 use mathlib.Core.Path.{sym}
 use native.Mathlib.Omega.{arith}
 use lib.ListN.{length-take}
-use borrow.Author.Tests.{not-true, not-false}
 use Rattle.tables.proofs.Choices.{know}
 use Rattle.text.proofs.Searching.{found}
 use Rattle.text.proofs.DigitCuts.{no_sign, other_key, too_short_lem, no_feed, no_digits, good_line}

@@ -1,11 +1,9 @@
 use mathlib.Core.Path.{sym}
 use native.Mathlib.Omega.{arith}
 use lib.ListN.{length-take}
-use borrow.Author.Tests.{not-true, not-false}
 use Rattle.tables.proofs.Choices.{know}
 use Rattle.text.proofs.Counts.{value_no_number, value_below, value_above, value_within}
 use Rattle.text.proofs.Lines.{cut_known, keyed_absent, keyed_other, keyed_bad, keyed_good}
-use borrow.Author.Rules.{rules}
 use Rattle.text.proofs.line.count_line.Goals as goal
 
 pub returns-in_default : goal.returns-in_default

@@ -5,7 +5,6 @@ use Rattle.text.specs.Line.{cut_of}
 use Rattle.tables.proofs.Choices.{know}
 use Rattle.text.proofs.Searching.{found}
 use Rattle.text.proofs.Lines.{cut_none, cut_both}
-use borrow.Author.Rules.{rules}
 use Rattle.text.proofs.line.cut_line.Goals as goal
 
 pub returns-in_default : goal.returns-in_default

@@ -1,4 +1,3 @@
-use borrow.Author.Rules.{rules}
 use Rattle.text.proofs.Numbers.{one_low, one_high, one_digit}
 use Rattle.text.proofs.number.read_digit.Goals as goal
 

@@ -1,8 +1,6 @@
-use Rattle.text.proofs.Numbers.{DigitsAt, digits_long, digits_start, digits_bound, digits_end}
+use Rattle.text.proofs.Numbers.{digits_long, digits_start, digits_bound, digits_end}
 use borrow.Author.Rules.{rules}
-use Prim.Native.Nat.{◌-◌}
 use native.Mathlib.Omega.{arith}
-use lib.ListN.{length}
 use Rattle.text.proofs.Numbers.{digit_low, digit_high, digit}
 use Rattle.text.proofs.number.read_digits.Goals as goal
 

@@ -1,9 +1,6 @@
-use Rattle.text.proofs.Numbers.{DigitsAt, digits_long, digits_start, digits_bound, digits_end}
-use borrow.Author.Rules.{rules}
+use Rattle.text.proofs.Numbers.{DigitsAt}
 use Prim.Native.Nat.{◌-◌}
-use native.Mathlib.Omega.{arith}
 use lib.ListN.{length}
-use Rattle.text.proofs.Numbers.{digit_low, digit_high, digit}
 use Rattle.text.proofs.number.read_digits.Given as goal
 
 abbrev pub invariant-loop-i : goal.invariant-loop-i

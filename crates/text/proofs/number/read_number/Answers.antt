@@ -1,7 +1,4 @@
 use mathlib.Core.Path.{◌∙◌}
-use mathlib.Core.Logic.{⊎_elim}
-use native.Mathlib.Omega.{arith}
-use borrow.Author.Rules.{rules}
 use Rattle.text.proofs.Numbers.{number_short, number_zero, number_kept}
 use Rattle.text.proofs.number.read_number.Goals as goal
 use Rattle.text.proofs.number.read_number.Goals.{then-s-gt1+else-s-eq48, else-s-gt1}

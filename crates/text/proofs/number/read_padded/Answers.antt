@@ -1,5 +1,4 @@
 use mathlib.Core.Path.{◌∙◌}
-use borrow.Author.Rules.{rules}
 use Rattle.text.proofs.Numbers.{padded_none, padded_one, padded_some}
 use Rattle.text.proofs.number.read_padded.Goals as goal
 

@@ -1,7 +1,5 @@
 use borrow.Author.Rules.{rules}
-use Prim.Native.Nat.{◌-◌}
-use lib.ListN.{length}
-use Rattle.text.proofs.Searching.{SameAt, same_starts, same_end, same_differ, same_more, same_lengths}
+use Rattle.text.proofs.Searching.{same_starts, same_end, same_differ, same_more, same_lengths}
 use Rattle.text.proofs.search.same.Goals as goal
 
 pub returns-then-a-b : goal.returns-then-a-b

@@ -1,7 +1,6 @@
-use borrow.Author.Rules.{rules}
 use Prim.Native.Nat.{◌-◌}
 use lib.ListN.{length}
-use Rattle.text.proofs.Searching.{SameAt, same_starts, same_end, same_differ, same_more, same_lengths}
+use Rattle.text.proofs.Searching.{SameAt}
 use Rattle.text.proofs.search.same.Given as goal
 
 abbrev pub invariant-loop-i : goal.invariant-loop-i

@@ -1,6 +1,5 @@
 use mathlib.Core.Path.{subst}
 use Rattle.meaning.specs.Covers.{CoversIn}
-use borrow.Author.Rules.{rules}
 use Rattle.truth.proofs.fill.fill.Goals as goal
 
 pub fill_looped-requires : goal.fill_looped-requires

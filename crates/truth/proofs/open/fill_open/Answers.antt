@@ -1,12 +1,10 @@
-use Prim.Native.Nat.{ℕ, suc, ◌-◌, ◌≤◌}
+use Prim.Native.Nat.{suc, ◌-◌, ◌≤◌}
 use mathlib.Core.Path.{refl, subst}
 use native.Mathlib.Omega.{arith}
 use Rattle.meaning.specs.Satisfaction.{table_of}
 use Rattle.meaning.specs.Rows.{Each, EachSignal}
 use Rattle.normal_form.proofs.FormTables.{form_operands, row_operands, row_signals}
-use Rattle.lanes.specs.Truth.{bit_in}
-use Rattle.row_lanes.specs.Pass.{CyclesOf}
-use Rattle.truth.proofs.Filling.{FilledTo, fill_none, fill_next, earlier_shown, row_shown, fill_enough, filled_tells}
+use Rattle.truth.proofs.Filling.{fill_none, fill_next, earlier_shown, row_shown, fill_enough, filled_tells}
 use borrow.Author.Rules.{rules}
 use Rattle.truth.proofs.open.fill_open.Goals as goal
 use Rattle.truth.proofs.open.fill_open.Goals.{in-Constant, in-Signal, in-Unary, in-Binary}
@@ -61,7 +59,7 @@ loop-k-preserved c = λ n most all.
     let filled = c.loop-k.invariant n most all in
     let below = form_operands c.args.form c.requires.0 (suc c.loop-k.k) (omega arith) in
     fill_next n _ _ _ c.match-row.rows (omega (arith, c.requires.0.most_rows)) (omega arith) filled (λ bits f. let shown = earlier_shown n _ _ _ filled bits f (table_of c.args.form.places (suc c.loop-k.k)) below in elim c.match-row.branch [
-      in-Constant w ↦ row_shown n _ bits w.rows-is w.in-Constant.is (w.constant.ensures.shows n all)
+      | in-Constant w ↦ row_shown n _ bits w.rows-is w.in-Constant.is (w.constant.ensures.shows n all)
       | in-Signal w ↦ row_shown n _ bits w.rows-is w.in-Signal.is (w.signal.ensures.shows n all)
       | in-Unary w ↦ row_shown n _ bits w.rows-is w.in-Unary.is (w.unary.ensures.shows n _ most all (rw w.in-Unary.is at shown))
       | in-Binary w ↦ let e = (rw w.in-Binary.is at shown) in row_shown n _ bits w.rows-is w.in-Binary.is (w.binary.ensures.shows n _ _ most e.0 e.1)

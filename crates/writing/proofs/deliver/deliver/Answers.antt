@@ -1,7 +1,6 @@
 use mathlib.Core.Path.{sym, subst}
 use Rattle.writing.specs.Answer.{Delivers}
 use Rattle.writing.proofs.Answers.{wrote_delivers, short_delivers}
-use borrow.Author.Rules.{rules}
 use Rattle.writing.proofs.deliver.deliver.Goals as goal
 
 pub returns-then-buf-text : goal.returns-then-buf-text

@@ -2,7 +2,6 @@ use mathlib.Core.Path.{sym}
 use lib.Seq.{length-take-le}
 use Rattle.writing.proofs.Texts.{wrote_within, wrote_start}
 use Rattle.writing.proofs.Answers.{delivers_is}
-use borrow.Author.Rules.{rules}
 use Rattle.writing.proofs.deliver.deliver_refusal.Goals as goal
 
 pub slice_bounds-deliver-end : goal.slice_bounds-deliver-end

@@ -1,8 +1,6 @@
 use Rattle.writing.proofs.Texts.{decimal_more_length}
-use mathlib.Core.Path.{ap, ◌∙◌}
 use native.Mathlib.Omega.{arith}
-use lib.ListN.{length, length-append}
-use borrow.Author.Rules.{rules}
+use lib.ListN.{length}
 use Rattle.writing.proofs.length.number_length.Goals as goal
 
 pub returns : goal.returns

@@ -1,5 +1,4 @@
 use Rattle.writing.proofs.Texts.{wrote_both}
-use borrow.Author.Rules.{rules}
 use Rattle.writing.proofs.line.put_text_line.Goals as goal
 
 pub returns : goal.returns

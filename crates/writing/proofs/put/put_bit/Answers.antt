@@ -1,4 +1,3 @@
-use borrow.Author.Rules.{rules}
 use Rattle.writing.proofs.put.put_bit.Goals as goal
 
 pub returns-then-on : goal.returns-then-on

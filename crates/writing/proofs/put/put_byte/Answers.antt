@@ -1,6 +1,5 @@
 use native.Mathlib.Omega.{arith}
 use Rattle.writing.proofs.Texts.{wrote_byte}
-use borrow.Author.Rules.{rules}
 use Rattle.writing.proofs.put.put_byte.Goals as goal
 
 pub returns : goal.returns

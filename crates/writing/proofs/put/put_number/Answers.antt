@@ -1,6 +1,5 @@
 use native.Mathlib.Omega.{arith}
 use Rattle.writing.proofs.Texts.{wrote_both, wrote_is, decimal_more}
-use borrow.Author.Rules.{rules}
 use Rattle.writing.proofs.put.put_number.Goals as goal
 
 pub returns : goal.returns
