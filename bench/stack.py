@@ -100,12 +100,12 @@ def frame(name, code):
         elif instruction.startswith('j') and target is not None:
             assert depth == 0, (name, hex(at), depth)
             calls.add(target)
-            left += [(behind[at], depth)] * (instruction != 'jmp')
+            left += [(behind[at], depth)] if instruction != 'jmp' else []
         elif instruction == 'jmp' and operands.startswith('*'):
             tables.add(depth)
         elif instruction.startswith('j'):
             left.append((int(operands.split()[0], 16), depth))
-            left += [(behind[at], depth)] * (instruction != 'jmp')
+            left += [(behind[at], depth)] if instruction != 'jmp' else []
         else:
             if instruction == 'call':
                 assert target is not None, (name, hex(at), operands)
