@@ -82,38 +82,37 @@ def frame(name, code):
         at, depth = left.pop()
         if at in depths:
             assert depths[at] == depth, (name, hex(at), depths[at], depth)
-            continue
-        depths[at] = depth
-        instruction, operands, target = code[at]
-        size, end = probed(code, at)
-        if end is not None:
-            most = max(most, depth + size)
-            depths.update((it, depth) for it in order if at < it < end)
-            left.append((end, depth + size))
-            continue
-        if place := re.search(r'-0x([0-9a-f]+)\(%rsp', operands):
-            if not operands.endswith('(%rsp),%rsp'):
-                below = max(below, int(place[1], 16))
-                touched = max(touched, below if instruction != 'lea' else 0)
-        if instruction == 'ret' or instruction == 'ud2':
-            assert instruction == 'ud2' or depth == 0, (name, hex(at), depth)
-        elif instruction.startswith('j') and target is not None:
-            assert depth == 0, (name, hex(at), depth)
-            calls.add(target)
-            left += [(behind[at], depth)] if instruction != 'jmp' else []
-        elif instruction == 'jmp' and operands.startswith('*'):
-            tables.add(depth)
-        elif instruction.startswith('j'):
-            left.append((int(operands.split()[0], 16), depth))
-            left += [(behind[at], depth)] if instruction != 'jmp' else []
         else:
-            if instruction == 'call':
-                assert target is not None, (name, hex(at), operands)
+            depths[at] = depth
+            instruction, operands, target = code[at]
+            size, end = probed(code, at)
+            if place := re.search(r'-0x([0-9a-f]+)\(%rsp', operands):
+                if not operands.endswith('(%rsp),%rsp'):
+                    below = max(below, int(place[1], 16))
+                    touched = max(touched, below if instruction != 'lea' else 0)
+            if end is not None:
+                most = max(most, depth + size)
+                depths.update((it, depth) for it in order if at < it < end)
+                left.append((end, depth + size))
+            elif instruction == 'ret' or instruction == 'ud2':
+                assert instruction == 'ud2' or depth == 0, (name, hex(at), depth)
+            elif instruction.startswith('j') and target is not None:
+                assert depth == 0, (name, hex(at), depth)
                 calls.add(target)
-            depth += moved(instruction, operands)
-            most = max(most, depth)
-            assert depth >= 0, (name, hex(at))
-            left.append((behind[at], depth))
+                left += [(behind[at], depth)] if instruction != 'jmp' else []
+            elif instruction == 'jmp' and operands.startswith('*'):
+                tables.add(depth)
+            elif instruction.startswith('j'):
+                left.append((int(operands.split()[0], 16), depth))
+                left += [(behind[at], depth)] if instruction != 'jmp' else []
+            else:
+                if instruction == 'call':
+                    assert target is not None, (name, hex(at), operands)
+                    calls.add(target)
+                depth += moved(instruction, operands)
+                most = max(most, depth)
+                assert depth >= 0, (name, hex(at))
+                left.append((behind[at], depth))
         if not left:
             # what is not reached yet is where a table of jumps leads, or fills up behind a jump
             rest = [it for it in order if it not in depths and not re.match(r'nop|xchg|int3|data16|cs$', code[it][0])]
