@@ -31,7 +31,7 @@ use Rattle.sheet_maker.proofs.Lengths.{sheet_size}
 use Rattle.sheet_maker.proofs.Sheets.{made_met, root_set, made_unique}
 use Rattle.writing.specs.declared.answer.Bytes.{Bytes}
 use Rattle.writing.specs.declared.answer.Bytes.TheVariants.{Count, Refused as BytesRefused}
-use Rattle.sheet_length.specs.Answer.{Measured, MeasuresOn, Measures}
+use Rattle.sheet_length.specs.Answer.{Measured, Measured.sheet, Measured.none, MeasuresOn, Measures}
 
 -- the file of a sheet that is made has the length that its rows and cycles give
 pub made_size : (g : NormalForm) (t : Trace) (a : Activation) → g.rows ≤ 128 → t.cycles ≤ 256 → IsMade g t a → length (written_sheet a) ≡ sheet_length a.rows a.cycles

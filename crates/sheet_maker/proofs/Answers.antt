@@ -31,7 +31,7 @@ use Rattle.writing.specs.Lent.{overlaid}
 use Rattle.sheet_maker.specs.declared.MakerAnswer.{MakerAnswer}
 use Rattle.sheet_maker.specs.declared.MakerAnswer.TheVariants.{None, Refused as MakerRefused}
 use Rattle.sheet_maker.specs.Made.{Satisfied, IsMade}
-use Rattle.sheet_maker.specs.Answer.{answer_of, Answers, MakesOn, Makes}
+use Rattle.sheet_maker.specs.Answer.{answer_of, Answers, Answers.sheet, Answers.none, MakesOn, Makes}
 use Rattle.sheet_maker.proofs.Sheets.{made_met, root_set, made_unique}
 
 -- THE CONTRACT FIXES ANSWER AND BYTES

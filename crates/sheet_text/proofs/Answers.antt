@@ -12,7 +12,7 @@ use Rattle.meeting.proofs.Covered.{HaveMet}
 use Rattle.monitors.specs.Sheet.{activator_at}
 use Rattle.sheet_maker.specs.Made.{Satisfied, IsMade}
 use Rattle.sheet_maker.proofs.Sheets.{made_met, root_set}
-use Rattle.sheet_text.specs.Answer.{none_text, IsMadeText}
+use Rattle.sheet_text.specs.Answer.{none_text, IsMadeText, IsMadeText.sheet, IsMadeText.none}
 
 module _ {f : Formula} {t : Trace} {g : NormalForm} {u : Trace} (met : HaveMet f t g u) {a : Activation} (made : IsMade g u a) {b : Bool} (bit : b ≡ activator_at a 0 a.rows) where
   root : (b ≡ true) ↔ Satisfied f t
