@@ -44,7 +44,7 @@ use Rattle.run.proofs.Verdicts.{verdict_is}
 use Rattle.cases.proofs.ComputedSheets.{ChecksTo, check_computed, MakesTo, make_computed}
 use Rattle.cases.proofs.ComputedLengths.{MeasuresTo, measure_computed}
 use Rattle.cases.specs.Case.{File, file_bytes, Case, Watched, Answered, Runs, Says, Each, Each.none, Each.first}
-use Rattle.cases.specs.Case.Case.{normal_form_lem, bound, normal_length, looped, opened, prints, makes, sheet_length_lem, checks, runs}
+use Rattle.cases.specs.Case.Case.{normal_form_case, bound, normal_length, looped, opened, prints, makes, sheet_length_case, checks, runs}
 
 -- both files are read, and their tables are so
 abbrev pub OnTwo : Result Formula → Result Trace → (Formula → Trace → Type 0) → Type 0
@@ -82,14 +82,14 @@ OnOne (refused e n) P = ⊥
 
 -- a case on the normal form alone is computed itself
 abbrev pub Computed : Case → Type 0
-Computed (normal_form_lem rule s out) = Says (normal_form_lem rule s out)
+Computed (normal_form_case rule s out) = Says (normal_form_case rule s out)
 Computed (bound rule n) = Says (bound rule n)
 Computed (normal_length rule s n) = Says (normal_length rule s n)
 Computed (looped rule take v) = Judges Looped v (parse_rule (file_bytes rule)) (parse_take (file_bytes take))
 Computed (opened rule take v) = Judges Unlooped v (parse_rule (file_bytes rule)) (parse_take (file_bytes take))
 Computed (prints rule take text) = PrintsText (file_bytes text) (parse_rule (file_bytes rule)) (parse_take (file_bytes take))
 Computed (makes rule take sheet) = OnThree (parse_rule (file_bytes rule)) (parse_take (file_bytes take)) (parse_sheet (file_bytes sheet)) (MakesTo (file_bytes sheet))
-Computed (sheet_length_lem rule take n) = OnTwo (parse_rule (file_bytes rule)) (parse_take (file_bytes take)) (MeasuresTo n)
+Computed (sheet_length_case rule take n) = OnTwo (parse_rule (file_bytes rule)) (parse_take (file_bytes take)) (MeasuresTo n)
 Computed (checks rule take sheet x) = OnThree (parse_rule (file_bytes rule)) (parse_take (file_bytes take)) (parse_sheet (file_bytes sheet)) (λ f t a. ChecksTo f t a x)
 Computed (runs rule watched) = OnOne (parse_rule (file_bytes rule)) (λ f. RunsTo f [] watched)
 
@@ -110,7 +110,7 @@ module _ (rule take : File) where
   printed text (refused e n) q fr tr x = sym x
 
   measured : (n : ℕ) (p : Result Formula) (q : Result Trace) → parse_rule (file_bytes rule) ≡ p → parse_take (file_bytes take) ≡ q
-      → OnTwo p q (MeasuresTo n) → Says (sheet_length_lem rule take n)
+      → OnTwo p q (MeasuresTo n) → Says (sheet_length_case rule take n)
   measured n (accepted f) (accepted t) fr tr c = rw (fr, tr) (measure_computed f t (rule_valid (file_bytes rule) f fr) (take_valid (file_bytes take) t tr) n c)
   measured n (accepted f) (refused e m) fr tr c = absurd c
   measured n (refused e m) q fr tr c = absurd c
@@ -149,14 +149,14 @@ ran_file rule watched (accepted f) fr x = rw fr (ran f [] (led_begun (file_bytes
 ran_file rule watched (refused e n) fr x = absurd x
 
 pub computed_says : (c : Case) → Computed c → Says c
-computed_says (normal_form_lem rule s out) x = x
+computed_says (normal_form_case rule s out) x = x
 computed_says (bound rule n) x = x
 computed_says (normal_length rule s n) x = x
 computed_says (looped rule take v) x = judged rule take Looped v _ _ refl refl x
 computed_says (opened rule take v) x = judged rule take Unlooped v _ _ refl refl x
 computed_says (prints rule take text) x = printed rule take (file_bytes text) _ _ refl refl x
 computed_says (makes rule take sheet) x = made rule take sheet _ _ _ refl refl refl x
-computed_says (sheet_length_lem rule take n) x = measured rule take n _ _ refl refl x
+computed_says (sheet_length_case rule take n) x = measured rule take n _ _ refl refl x
 computed_says (checks rule take sheet y) x = checked rule take sheet _ _ _ y refl refl refl x
 computed_says (runs rule watched) x = ran_file rule watched _ refl x
 

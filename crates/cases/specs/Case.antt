@@ -51,7 +51,7 @@ pub record Watched : Type 0 where
 -- the first file is that of a rule, and the second that of a take where there is one
 pub data Case : Type 0 where
   -- the file of its normal form, or of its negation's
-  normal_form_lem : File → Sign → File → Case
+  normal_form_case : File → Sign → File → Case
   -- the bound on that file's length, and the length itself
   bound : File → ℕ → Case
   normal_length : File → Sign → ℕ → Case
@@ -61,7 +61,7 @@ pub data Case : Type 0 where
   prints : File → File → File → Case
   -- the sheet that is made, and the length of that, 0 where there is none
   makes : File → File → File → Case
-  sheet_length_lem : File → File → ℕ → Case
+  sheet_length_case : File → File → ℕ → Case
   -- what a check of a sheet finds
   checks : File → File → File → Finding → Case
   -- a run: its cycles, each with the verdict behind it
@@ -99,10 +99,10 @@ Runs f cs (w ∷ ws) =
     let more : List (List Bool) = cs ++ (digits_in (bytes w.digits) ∷ []) in
     (cycle_outcome f.signals (length cs) (bytes w.digits) ≡ Accepted) × VerdictSoFar f more (Judged w.verdict) × Runs f more ws
 
--- of `prints` too: no other text is the text of `judge` for the two files (proofs, `one_text`); of `sheet_length_lem` too: no other length
+-- of `prints` too: no other text is the text of `judge` for the two files (proofs, `one_text`); of `sheet_length_case` too: no other length
 -- is (sheet_length/proofs, `measures_once`)
 abbrev pub Says : Case → Type 0
-Says (normal_form_lem rule s out) = OnRule rule (λ f. Writes f s (file_bytes out))
+Says (normal_form_case rule s out) = OnRule rule (λ f. Writes f s (file_bytes out))
 Says (bound rule n) = OnRule rule (λ f. bound_answer f ≡ Count n)
 Says (normal_length rule s n) = OnRule rule (λ f. length_answer f s ≡ Count n)
 Says (looped rule take v) = Answered (pair_outcome Looped) rule take (Judged v)
@@ -112,7 +112,7 @@ Says (makes rule take sheet) =
     OnRule rule
     (λ f. OnTake take
     (λ t. (before : List ℕ) → Makes f t before (overlaid (file_bytes sheet) before) (answer_of (written_answer (file_bytes sheet) before))))
-Says (sheet_length_lem rule take n) = OnRule rule (λ f. OnTake take (λ t. Measures f t (Count n)))
+Says (sheet_length_case rule take n) = OnRule rule (λ f. OnTake take (λ t. Measures f t (Count n)))
 Says (checks rule take sheet x) =
     OnRule rule
     (λ f. OnTake take (λ t. OnSheet sheet (λ a. CheckAnswers (check_outcome f t a) f t a (Checked x))))

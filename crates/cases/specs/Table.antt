@@ -9,7 +9,7 @@ use Rattle.judging.specs.declared.verdict.Verdict.{Verdict}
 use Rattle.judging.specs.declared.verdict.Verdict.TheVariants.{Holds, Breaks, Kept, Broken, Open}
 use Rattle.checking.specs.declared.finding.Finding.TheVariants.{Failed, Starved, Passes}
 use Rattle.cases.specs.Case.{File, Case, Watched}
-use Rattle.cases.specs.Case.Case.{normal_form_lem, bound, normal_length, looped, opened, prints, makes, sheet_length_lem, checks, runs}
+use Rattle.cases.specs.Case.Case.{normal_form_case, bound, normal_length, looped, opened, prints, makes, sheet_length_case, checks, runs}
 
 abbrev pub rule_a : File
 rule_a =
@@ -247,9 +247,9 @@ abbrev pub cases : List Case
 cases =
     -- "Rule A: ..; bound 293. Its normal form, whole (P)"
     bound rule_a 293 ∷
-    normal_form_lem rule_a Plain normal_a ∷
-    normal_form_lem rule_words Plain normal_words ∷
-    normal_form_lem rule_words Negated negated_words ∷
+    normal_form_case rule_a Plain normal_a ∷
+    normal_form_case rule_words Plain normal_words ∷
+    normal_form_case rule_words Negated negated_words ∷
     -- "P: A on 10 01, loop 0: `holds`. A on 10 10, loop 1: `breaks`. A on open 10: `open`."
     looped rule_a loop0_10_01 Holds ∷
     looped rule_a loop1_10_10 Breaks ∷
@@ -285,7 +285,7 @@ cases =
     runs rule_always_next (behind "10" Open ∷ behind "00" Broken ∷ []) ∷
     runs rule_until (behind "10" Open ∷ behind "10" Open ∷ behind "01" Kept ∷ []) ∷
     -- padded files: what is written and printed of them is not padded
-    normal_form_lem padded_a Plain normal_a ∷
+    normal_form_case padded_a Plain normal_a ∷
     prints padded_a padded_10_01 printed_a ∷
     checks padded_a padded_10_01 padded_sheet_a Passes ∷
     prints rule_six padded_10_01 refused_six ∷
@@ -296,7 +296,7 @@ cases =
     normal_length rule_a Plain 77 ∷
     normal_length rule_a Negated 78 ∷
     normal_length rule_words Plain 192 ∷
-    sheet_length_lem rule_a loop0_10_01 55 ∷
-    sheet_length_lem rule_a loop1_10_10 0 ∷
-    sheet_length_lem rule_until open_10_01 43 ∷
-    sheet_length_lem rule_until open_10_10 0 ∷ []
+    sheet_length_case rule_a loop0_10_01 55 ∷
+    sheet_length_case rule_a loop1_10_10 0 ∷
+    sheet_length_case rule_until open_10_01 43 ∷
+    sheet_length_case rule_until open_10_10 0 ∷ []
