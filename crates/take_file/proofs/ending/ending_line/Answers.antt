@@ -54,5 +54,5 @@ overflow_add-result-2 c =
 pub returns : goal.returns
 returns c = record {
   answer = sym (keyed_good _ _ _ (know c.cut_line.ensures.answer c.in-Line.is) (know c.same.ensures.answer c.if-not-same.false) (ending_loop _ _ (know
-      c.same-2.ensures.answer c.if-same.false) (know c.read_padded.ensures.answer c.in-Is.is) (search rules)));
+      c.same-2.ensures.answer c.if-same.false) (know c.read_padded.ensures.answer c.in-Is.is) (omega arith)));
 }
