@@ -1,30 +1,28 @@
 -- THE EQUIVALENCE over lists of step calls: cycle i of the circuit's run is the answered call i. Assumes nothing.
-use Prim.Native.Nat.{ℕ, zero, suc, ◌*◌, ◌≤◌, ◌<◌}
-use mathlib.Core.Path.{◌≡◌, refl, sym, ap, ◌∙◌}
+use Prim.Native.Nat.{ℕ, zero, suc, ◌≤◌}
+use mathlib.Core.Path.{◌≡◌, refl}
 use mathlib.Core.List.{List}
 use native.Mathlib.Omega.{arith}
-use lib.ListN.{length, take, drop, length-append}
-use lib.Seq.{take_at}
+use lib.ListN.{length, length-append}
 use Rattle.tables.specs.declared.row.Formula.{Formula}
 use Rattle.tables.specs.declared.row.NormalForm.{NormalForm}
 use Rattle.tables.proofs.Places.{length_tabulate}
-use Rattle.text.specs.Written.{digits_text}
 use Rattle.normal_form.specs.declared.sign.Sign.TheVariants.{Plain}
 use Rattle.normal_form.specs.Form.{InNormalForm}
 use Rattle.normal_form.specs.Numbering.{normal_form}
 use Rattle.normal_form.proofs.Ranges.{form_normal}
-use Rattle.circuit.specs.Valuation.{Valuation, output_values, next_latches, latch_in, IsRun}
+use Rattle.circuit.specs.Valuation.{Valuation, latch_in, IsRun}
 use Rattle.monitors.specs.State.{state_at}
 use Rattle.monitors.proofs.States.{SameState, RowTo, same_sym, same_trans}
 use Rattle.step.specs.Fitting.{Fitting}
 use Rattle.step.specs.Step.{digit_at, output_size, state_left, form_output, rows_in}
 use Rattle.step.proofs.Outputs.{failed_digit, accept_digit}
-use Rattle.step_calls.specs.Calls.{Call, Kept.fresh, Kept.wrote, InOrder, kept, handed, answered, left}
+use Rattle.step_calls.specs.Calls.{Call, Kept.fresh, InOrder, kept, handed, answered}
 use Rattle.step_calls.proofs.Order.{at_first, at_next}
-use Rattle.step_calls.proofs.Steps.{state_digits_size, answered_range, answered_fits, left_is, kept_is, handed_on, kept_back, handed_fresh}
+use Rattle.step_calls.proofs.Steps.{state_digits_size, answered_range, answered_fits, handed_on, kept_back, handed_fresh}
 use Rattle.monitor_circuit.specs.Monitors.{latched_state}
 use Rattle.monitor_circuit.specs.Steps.{rule_circuit, inputs_in}
-use Rattle.monitor_circuit.proofs.OneCycle.{outputs_said, nexts_at, nexts_said}
+use Rattle.monitor_circuit.proofs.OneCycle.{nexts_at}
 
 pub output_size_lem : (g : NormalForm) (p a s : List ℕ) → length (form_output g p a s) ≡ output_size g.rows
 unfolding form_output
@@ -69,25 +67,3 @@ module _ (f : Formula) (calls : ℕ → Call) (at : ℕ → ℕ) (order : InOrde
       same_trans (nexts_at g ok (state i) a s (fits i).signals_agree (λ j m. refl) (latches_are i (omega arith)) (run i l))
       (rw (at_next order (kept f calls) (kept_back f calls) i)
       (same_sym (handed_on f calls (at i) (order.each i) (calls (at (suc i))).rows)))
-
-  module _ (i : ℕ) (h : i < n) where
-    abbrev a : List ℕ
-    a = (calls (at i)).activators
-
-    abbrev s : List ℕ
-    s = (calls (at i)).signals
-
-    -- IN EACH CYCLE THE OUTPUTS ARE WHAT THE STEP WRITES
-    pub outputs_are : take (3 * rows_in f) (left f calls (at i)) ≡ digits_text (output_values (rule_circuit f) (values i))
-    outputs_are =
-        let rest : List ℕ = drop (output_size (rows_in f)) (calls (at i)).buffer in
-        let size : length (form_output g (state i) a s) ≡ 3 * rows_in f = output_size_lem g (state i) a s ∙ omega arith in
-        ap (take (3 * rows_in f)) (left_is f calls (at i) (order.each i))
-        ∙ (take_at (form_output g (state i) a s) rest (3 * rows_in f) size
-        ∙ sym (outputs_said g ok (state i) a s (fits i).signals_agree (λ j m. refl) (latches_are i (omega arith)) (run i h)))
-
-    -- AND THE NEXT LATCHES ARE WHAT IS KEPT OF IT
-    pub nexts_are : kept f calls (suc (at i)) ≡ wrote (digits_text (next_latches (rule_circuit f) (values i)))
-    nexts_are =
-        kept_is f calls (at i) (order.each i)
-        ∙ sym (ap wrote (nexts_said g ok (state i) a s (fits i).signals_agree (λ j m. refl) (latches_are i (omega arith)) (run i h)))

@@ -28,7 +28,8 @@ use Rattle.step_calls.specs.Calls.{Call, given, InOrder, kept, handed, answered,
 use Rattle.step_calls.proofs.Steps.{digit_says, state_digits_size, left_is, kept_is}
 use Rattle.monitor_circuit.specs.Steps.{rule_circuit, inputs_in, call_with}
 use Rattle.monitor_circuit.proofs.Values.{in_first, behind_first, stripes_size}
-use Rattle.monitor_circuit.proofs.Calls.{output_size_lem, outputs_are, nexts_are}
+use Rattle.monitor_circuit.proofs.Calls.{output_size_lem}
+use Rattle.monitor_circuit.proofs.Written.{outputs_are, nexts_are}
 
 -- ---- a call of so many digits is accepted
 

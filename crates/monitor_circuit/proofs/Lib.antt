@@ -3,6 +3,7 @@ pub mod GateRows
 pub mod Values
 pub mod OneCycle
 pub mod Calls
+pub mod Written
 pub mod Inputs
 pub mod WellFormedRows
 pub mod WellFormed
