@@ -16,7 +16,7 @@ WORD = r"[A-Za-z_][\w'\-₀-₉]*"
 
 def plain(name):
     """A step's name whatever its spelling: dashes and underscores are one, and `_lem` is what the respelling added."""
-    return re.sub(r"_lem$", "", name.replace("-", "_").lower())
+    return re.sub(r"_lem$", "", name.strip("«»").replace("-", "_").lower())
 
 
 def declarations(text):
@@ -109,6 +109,11 @@ def head_of(path):
     return path.split(".")[0]
 
 
+def pairs(terms):
+    """A nest of pairs, as the clauses of a call were."""
+    return terms[0] if len(terms) == 1 else "(" + terms[0] + ", " + pairs(terms[1:]) + ")"
+
+
 def nested(fields, stem):
     """The parts of a nest of pairs, as paths behind stem."""
     if len(fields) == 1:
@@ -152,6 +157,10 @@ class Function:
         for place, clause in zip(entry["places"], entry["clauses"]):
             if place[2][0] and clause and clause.get("fields"):
                 self.clauses[place[2][1]] = clause["fields"]
+        self.passed = {}
+        for place in entry["places"]:
+            if place[2][0] and place[3] in entry["params"]:
+                self.passed[place[2][1]] = entry["params"][place[3]]
         self.pre = (entry["pre"] or {}).get("fields") if isinstance(entry["pre"], dict) else entry["pre"]
 
     def fix(self, term):
@@ -161,7 +170,7 @@ class Function:
             if not m:
                 break
             name, path = m.group(1), m.group(2)
-            rest = re.sub(r"(?<![\w'\-.])" + re.escape(name) + r"(?![\w'\-])", lambda _: path, term[m.end():])
+            rest = re.sub(r"(?<![\w'\-.\"])" + re.escape(name) + r"(?![\w'\-\"])", lambda _: path, term[m.end():])
             term = term[: m.start()] + rest
         term = re.sub(r"(\.before)+(?![\w'\-])", "", term)
 
@@ -187,7 +196,12 @@ class Function:
             return m.group(0)
 
         def named(m):
-            out = chain(m)
+            if m.group(1) != "c":
+                return m.group(0)
+            return re.sub(r"\.(record|ruleset|data|open)(?![\w'\-»])", r".«\1»", named_inner(m))
+
+        def named_inner(m):
+            out = chain(m).replace("«", "").replace("»", "")
             for was, now in self.args:
                 if out.startswith(head_of(out) + was) and not re.match(r"[\w'\-]", out[len(head_of(out) + was):]):
                     out = head_of(out) + now + out[len(head_of(out) + was):]
@@ -196,6 +210,14 @@ class Function:
                 parts[2] = self.fields.get((parts[1], parts[2]), parts[2])
                 if parts[2] == "fact" and len(self.facts.get(parts[1], [])) == 1:
                     parts[2] = self.facts[parts[1]][0]
+            if len(parts) > 3 and parts[2] == "new" and parts[3].isdigit() and self.passed.get(parts[1]):
+                left, here = list(self.passed[parts[1]]), 3
+                while here < len(parts) and parts[here] == "1" and len(left) > 1:
+                    left.pop(0)
+                    here += 1
+                if here < len(parts) and parts[here] == "0":
+                    here += 1
+                parts[3:here] = [left[0]]
             for at, word in enumerate(parts):
                 fields = None
                 if word == "ensures" and at > 0:
@@ -215,18 +237,18 @@ class Function:
                         parts[at + 1:here] = [left[0]]
                     else:
                         stem = ".".join(parts[:at + 1])
-                        return "(" + ", ".join(stem + "." + x for x in left) + ")"
+                        return pairs([stem + "." + x for x in left])
                 elif at + 1 < len(parts) and parts[at + 1] in fields:
                     pass
                 elif len(fields) == 1:
                     parts.insert(at + 1, fields[0])
                 elif at + 1 == len(parts):
                     stem = ".".join(parts)
-                    return "(" + ", ".join(stem + "." + x for x in fields) + ")"
+                    return pairs([stem + "." + x for x in fields])
                 break
             return ".".join(parts)
 
-        term = re.sub(r"(?<![\w'\-.])(" + WORD + r")((?:\.[\w'\-₀-₉]+)+)", named, term)
+        term = re.sub(r"(?<![\w'\-.])(" + WORD + r")((?:\.[\w'\-₀-₉«»]+)+)", named, term)
         term = re.sub(r"sym \(length-map [^\s()]+ _\)\s*∙ [\w.'\-]*well_formed[.\d]*", "search rules", term)
         raw = r"not-(true|false) _ (" + WORD + r"(?:\.[\w'\-]+)*)\.\1-raw"
         term = re.sub(r"\(" + raw + r"\)", r"\2.\1", term)
@@ -256,7 +278,38 @@ class Function:
             return head + " " + lead + "record { " + "; ".join(f"{n} = {p.strip()}" for n, p in zip(fields, parts)) + " }"
         if inner == "search rules":
             return head + " " + lead + inner
+        words = top_args(inner)
+        parts = flat_parts(words[-1], fields) if len(words) == 3 and words[0] == "rw" else None
+        if parts and len(parts) == len(fields):
+            return head + " " + lead + "record { " + "; ".join(f"{n} = rw {words[1]} ({p.strip()})" for n, p in zip(fields, parts)) + " }"
         return head + " " + lead + "let both = " + inner + " in record { " + "; ".join(f"{n} = {p}" for n, p in zip(fields, nested(fields, "both"))) + " }"
+
+
+def spellings(old):
+    return (old, re.sub(r"^overflow_", "", old), re.sub(r"^slice_bounds_", "part_", old))
+
+
+def between(text, args, goals):
+    """Where the lists differ in length: a goal that only one name between two known ones can be."""
+    asked = {n: plain(k) for n, k in re.findall(r"^(" + WORD + r") : tie\.Need-(\S+)", text, re.M)}
+    index = {plain(o): i for i, (o, _) in reversed(list(enumerate(goals)))}
+    known = {}
+    for at, a in enumerate(args):
+        for s in spellings(asked.get(a, "")):
+            if s in index:
+                known[at] = index[s]
+                break
+    out = {}
+    for at, a in enumerate(args):
+        if a not in asked or at in known:
+            continue
+        low = max([known[k] for k in known if k < at], default=-1)
+        high = min([known[k] for k in known if k > at], default=len(goals))
+        kind = re.sub(r"^overflow_", "", asked[a]).split("_")[0]
+        fit = [i for i in range(low + 1, high) if plain(goals[i][0]).split("_")[0] == kind and i not in known.values()]
+        if len(fit) == 1:
+            out[a] = fit[0]
+    return out
 
 
 def convert(crate, folder, entry):
@@ -276,6 +329,8 @@ def convert(crate, folder, entry):
         args = [a for a in top_args(text[cut + 8:]) if a not in loops_named]
         if len(args) == len(order):
             by_place = {a: i for i, a in enumerate(args)}
+        else:
+            by_place = between(text, args, entry["needs"])
     for comment, lines in declarations(text):
         body = "\n".join(lines)
         if lines[0].startswith("use "):
@@ -299,7 +354,7 @@ def convert(crate, folder, entry):
         loop = re.match(r"tie\.(invariant|decreases)(\S*)(.*)$", kind)
         if need:
             old = plain(need.group(1))
-            for turned in (old, re.sub(r"^overflow_", "", old), re.sub(r"^slice_bounds_", "part_", old)):
+            for turned in spellings(old):
                 new = needs.get(turned)
                 if new:
                     old = turned
@@ -318,6 +373,14 @@ def convert(crate, folder, entry):
             invariants.append((comment, loop.group(1), loop.group(2), name, lines[1:]))
         else:
             helpers.append("\n".join(comment + lines))
+    def local_names(text):
+        for was, now in local.items():
+            if was != now:
+                text = re.sub(r"(?<=[ (\[])" + re.escape(was) + r"(?= c\b)", now, text)
+        return text
+
+    answers = [local_names(a) for a in answers]
+    helpers = [local_names(a) for a in helpers]
     # inline answers of the list
     if spec:
         inner = spec[spec.index("tie.spec") + 8:]
