@@ -34,7 +34,7 @@ FORM = [
 
 # Fact: the log shows a number, a value or a statement that fails.
 FACT = [
-    r"`(omega|grind)`: the goal does not follow.*the goal fails( at|, at|\.)",  # numbers at which it fails, or false as it stands
+    r"`(omega|grind)`: the (goal|part `[^`]*` of the goal) does not follow.*(the goal|the part|it) fails( at|, at|\.)",  # numbers at which it fails
     r"computed as far as they go, the two (types|sides|indices) (are|differ|first differ)",  # one thing is asked for, and another is there
     r"as printed, the two types differ only where",
     r"expected type `[^…`]*`,?\s+but this has type `[^…`]*`",  # the same, where both are shown whole
@@ -49,7 +49,7 @@ SHOWN = [
     r"error: (`[^`]*`: )?as printed, the two types differ only where",
     r"error: (`[^`]*`: )?expected type `[^…`]*`, but this has type `[^…`]*`",
     r"error: (`[^`]*`: )?give a proof of that as the last argument, `rw L t`",  # (what `rw` leaves stands in the line behind)
-    r"error: (`[^`]*`: )?`(omega|grind)`: the goal does not follow.*the goal fails( at|, at|\.)",
+    r"error: (`[^`]*`: )?`(omega|grind)`: the (goal|part `[^`]*` of the goal) does not follow from what it read\. All of that holds, and",  # (.. it fails, at ..)
     r"it is not proved that .*the facts known there allow values at which",
 ]
 
@@ -103,6 +103,8 @@ def self_test():
 
     cases = [
         (of("`omega`: the goal does not follow from what it read. All of that holds, and the goal fails, at `n` = 65."), None),
+        (of("`omega`: the part `c'` of the goal does not follow from what it read. All of that holds, and it fails, at `n` = 65."), None),
+        (of("`omega`: the goal does not follow from what it read. A fact that it needs may stand in no hypothesis"), "a wording that is not known"),
         (of("`grind`: the goal does not follow. The hypotheses hold, and the goal fails at `n` = `0`"), None),
         (of("expected type `L n k ≡ false`, but this has type `L n k ≡ L n k`"), None),
         (of("give a proof of that as the last argument\n  `rw` has no last argument, so what it leaves must be a path whose two ends are equal"), None),
@@ -123,6 +125,8 @@ def self_test():
     lines = [
         (f"{refused}: ./p.antt:9:13: error: `r`: computed as far as they go, the two types differ only where one has `1", "fact"),
         (f"{refused}: note: src/a.rt:1:1: it is not proved that it holds (`r`); the facts known there allow values at which this g", "fact"),
+        (f"{refused}: ./p.antt:9:13: error: `r`: `omega`: the goal does not follow from what it read. All of that holds, and the go", "fact"),
+        (f"{refused}: ./p.antt:9:13: error: `r`: `omega`: the goal does not follow from what it read. A fact that it needs may sta", "open"),
         (f"{refused}: note: src/a.rt:1:1: it is not proved that it holds (`r`)", "open"),
         (f"{refused}: ./p.antt:9:13: error: `r`: as printed, the two types first differ where one has", "open"),
         (f"{refused}: ./p.antt:9:13: error: `r`: expected type `0 ≡ 1`, but this has type `0 ≡ 0`", "fact"),
