@@ -4,14 +4,17 @@ use mathlib.Core.Bool.{Bool, true, false}
 use mathlib.Core.List.{List, []}
 use mathlib.Core.Logic.{◌↔◌}
 use Prim.Native.Nat.{ℕ, zero, suc, ◌+◌, ◌*◌, ◌-◌, ◌/◌, ◌%◌, ◌^◌, ◌≤◌, ◌<◌}
-use native.Mathlib.Nat.{pow-suc, pow-zero, div-one, div-div-eq-div-mul, div-eq_of_lt, lt_of_lt_of_le}
+use native.Mathlib.Nat.{add-zero, pow-suc, pow-zero, div-one, div-div-eq-div-mul, div-eq_of_lt, lt_of_lt_of_le}
+use native.Mathlib.Numerals.{add-one}
 use native.Mathlib.Omega.{arith}
 use native.Mathlib.Decide.{dec_lt, ℕ_discrete}
 use lib.Bits.{bit_or, or_lt, or_add_and, and_le_l, and_le_r}
 use lib.Dec.{eqb, ltb}
-use lib.ListN.{length, get_or}
+use lib.ListN.{length, get_or, take, drop}
+use lib.Seq.{drop-cons}
 use lib.Pow.{pow_pos, pow_mono}
 use borrow.Author.Tests.{ltb-true, ltb-false}
+use Rattle.std.specs.List.{fold, slice_range}
 use Rattle.tables.specs.Choice.{pick}
 use Rattle.tables.specs.Place.{tabulate}
 use Rattle.tables.specs.Bit.{word_from}
@@ -147,16 +150,31 @@ module _ (words : List ℕ) (signals count : ℕ) (fits : (i : ℕ) → i < 128 
 abbrev pub UnionOf : List ℕ → ℕ → ℕ → ℕ → Type 0
 UnionOf words from end bits = (n : ℕ) → (bits < 2 ^ n) ↔ ((i : ℕ) → from ≤ i → i < end → get_or words i 0 < 2 ^ n)
 
-pub union_none : (words : List ℕ) (from : ℕ) → UnionOf words from from 0
+union_none : (words : List ℕ) (from : ℕ) → UnionOf words from from 0
 union_none words from n = (λ h i a b. absurd (omega arith), λ h. pow_pos n)
 
-pub union_more : (words : List ℕ) {from i bits : ℕ} → from ≤ i → UnionOf words from i bits → UnionOf words from (i + 1) (bit_or bits (get_or words i 0))
+union_more : (words : List ℕ) {from i bits : ℕ} → from ≤ i → UnionOf words from i bits → UnionOf words from (i + 1) (bit_or bits (get_or words i 0))
 union_more words {from} {i} {bits} l u n =
     (λ h j a b. by h j a b (ℕ_discrete j i), λ h. or_lt n bits (get_or words i 0) ((u n).1 (λ j a b. h j a (omega arith))) (h i l (omega arith)))
   where
     by : bit_or bits (get_or words i 0) < 2 ^ n → (j : ℕ) → from ≤ j → j < i + 1 → Dec (j ≡ i) → get_or words j 0 < 2 ^ n
     by h j a b (yes e) = rw e (omega (arith, or_add_and bits (get_or words i 0), and_le_l bits (get_or words i 0)))
     by h j a b (no e) = (u n).0 (omega (arith, or_add_and bits (get_or words i 0), and_le_r bits (get_or words i 0))) j a (omega arith)
+
+-- the words of a range, taken together one after the other
+union_onto : (n : ℕ) (words : List ℕ) (from : ℕ) {low bits : ℕ} → low ≤ from → from + n ≤ length words → UnionOf words low from bits
+    → UnionOf words low (from + n) (fold bit_or bits (take n (drop from words)))
+union_onto zero words from l h u = rw add-zero u
+union_onto (suc n) words from {low} {bits} l h u =
+    let inside : from < length words = omega arith in
+    let next : UnionOf words low (suc from) (bit_or bits (get_or words from 0)) = rw add-one at (union_more words l u) in
+    let place : from + suc n ≡ suc from + n = omega arith in
+    rw (drop-cons words from 0, place) (union_onto n words (suc from) (omega arith) (omega arith) next)
+
+pub union_range : (words : List ℕ) (from end : ℕ) {bits : ℕ} → from ≤ end → end ≤ length words → bits ≡ fold bit_or 0 (slice_range words from end) → UnionOf words from end bits
+union_range words from end l h e =
+    let place : from + (end - from) ≡ end = omega arith in
+    rw e (rw place at (union_onto (end - from) words from (omega arith) (omega arith) (union_none words from)))
 
 -- block by block: the words below n have no other bit
 abbrev pub FitBelow : List ℕ → ℕ → ℕ → ℕ → Type 0

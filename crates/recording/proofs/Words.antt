@@ -54,10 +54,6 @@ put_start {before} {value} {cycle} e =
     }
 
 module _ {before value : List ℕ} {cycle s : ℕ} {words : List ℕ} (inv : PutAt before value cycle s words) where
-  pub put_length : length words ≡ 128
-  unfolding cycle_put
-  put_length = rw inv.goes (length_tabulate 128 0 (λ i. get_or before i 0 + added (take s value) cycle i))
-
   pub put_end : length value ≤ s → words ≡ cycle_put before value cycle
   put_end h = inv.goes ∙ ap (λ v. cycle_put before v cycle) (take_all s value h)
 
@@ -230,18 +226,16 @@ lanes_none = tabulate_ext 32 (λ s. lane_of (λ c. false)) (λ s. record { words
 
 -- the loop that makes them: the first s are made
 pub record LanesAt (words : List ℕ) (s : ℕ) (lanes : List Lane) : Type 0 where
-  pub within : s ≤ 32
   pub long : length lanes ≡ 32
   pub made : (i : ℕ) → i < s → get_or lanes i (record { words = [] }) ≡ lane_from words i
 
 pub lanes_start : {words : List ℕ} → LanesAt words 0 (replicate 32 (record { words = replicate 4 0 }))
-lanes_start = record { within = omega arith; long = length-replicate {A = Lane} 32 (record { words = replicate 4 0 }); made = λ i h. absurd (omega arith) }
+lanes_start = record { long = length-replicate {A = Lane} 32 (record { words = replicate 4 0 }); made = λ i h. absurd (omega arith) }
 
 module _ {words : List ℕ} {s : ℕ} {lanes : List Lane} (inv : LanesAt words s lanes) where
   pub lanes_more : {after : List Lane} → s < 32 → after ≡ set lanes s (lane_from words s) → LanesAt words (s + 1) after
   lanes_more {after} h a =
       record {
-        within = omega arith;
         long = ap length a ∙ (length-set lanes s (lane_from words s) ∙ inv.long);
         made = λ i l. rw a (at i l (ℕ_discrete i s));
       }

@@ -1,12 +1,12 @@
 // A recording that grows cycle by cycle: the words of its signals, and the lanes from them.
 #![tactic(auto)]
 
-ghost use Rattle.std.specs.Prelude.{Bool, List, [], ◌∷◌, ◌++◌, ◌≡◌, ◌^◌, ◌≤◌, ◌<◌, eqb, length};
+ghost use Rattle.std.specs.Prelude.{Bool, List, [], ◌∷◌, ◌++◌, ◌≡◌, ◌≤◌, ◌<◌, eqb, length};
 ghost use Rattle.tables.specs.Choice.{pick};
 ghost use Rattle.text.specs.Digits.{digits_in};
 ghost use Rattle.recording.specs.Recording.{Recorded, lanes_from, words_of};
 
-use tables::trace::Lane;
+use tables::trace::{Lane, power_of_two};
 
 pub mod whole;
 
@@ -15,13 +15,6 @@ pub fn empty() -> [u64; 128]
     ensures none { result ≡ words_of [] }
 {
     [0; 128]
-}
-
-fn power_of_two(k: usize) -> u64
-    requires { k < 64 }
-    ensures answer { result ≡ 2 ^ k }
-{
-    1u64 << k
 }
 
 // What a digit adds to a word: the bit of its cycle where it is 1.
@@ -40,10 +33,8 @@ pub fn put_cycle(words: &mut [u64; 128], digits: &[u8], cycle: usize)
 {
     let first = cycle / 64 * 32;
     let bit = power_of_two(cycle % 64);
-    let mut s = 0;
-    while s < digits.len() {
-        words[first + s] = words[first + s] + digit_bit(digits[s], bit);
-        s += 1;
+    for (s, digit) in digits.iter().enumerate() {
+        words[first + s] += digit_bit(*digit, bit);
     }
 }
 
@@ -52,12 +43,10 @@ pub fn lanes_from(words: [u64; 128]) -> [Lane; 32]
     ensures lanes { result ≡ lanes_from words }
 {
     let mut lanes = [Lane { words: [0; 4] }; 32];
-    let mut s = 0;
-    while s < 32 {
-        lanes[s] = Lane {
+    for (s, lane) in lanes.iter_mut().enumerate() {
+        *lane = Lane {
             words: [words[s], words[32 + s], words[64 + s], words[96 + s]],
         };
-        s += 1;
     }
     lanes
 }

@@ -33,7 +33,8 @@ pub struct Activation {
     pub lanes: [Lane; 128],
 }
 
-fn power_of_two(k: usize) -> u64
+// 2 to the power of k, which a word can hold.
+pub fn power_of_two(k: usize) -> u64
     requires { k < 64 }
     ensures answer { result ≡ 2 ^ k }
 {

@@ -1,9 +1,6 @@
-use Prim.Native.Nat.{◌-◌, ◌*◌, ◌≤◌}
+use Prim.Native.Nat.{◌*◌}
 use Rattle.recording.proofs.Bounds.{FitBelow}
 use Rattle.recording.proofs.whole.is_recording.Given as goal
 
 abbrev pub invariant-loop-block : goal.invariant-loop-block
-invariant-loop-block l = (l.block ≤ 4) × FitBelow l.words l.signals l.cycles (32 * l.block)
-
-abbrev pub decreases-loop-block : goal.decreases-loop-block
-decreases-loop-block l = 4 - l.block
+invariant-loop-block l = FitBelow l.words l.signals l.cycles (32 * l.block)
