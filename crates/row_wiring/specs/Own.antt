@@ -1,7 +1,12 @@
 -- The code's wiring of a row, and the literals of a row's own variables. Assumes nothing.
 use Rattle.std.specs.Prelude.{ℕ, ◌+◌, ◌*◌, ◌-◌, ◌<◌}
+use Rattle.tables.specs.declared.row.ConstantKind.{ConstantKind}
+use Rattle.tables.specs.declared.row.SignalKind.{SignalKind}
+use Rattle.tables.specs.declared.row.UnaryKind.{UnaryKind}
+use Rattle.tables.specs.declared.row.BinaryKind.{BinaryKind}
 use Rattle.tables.specs.declared.row.Row.{Row}
 use Rattle.monitor_circuit.specs.Wiring.{Operands as MeantOperands, Wiring as MeantWiring, row_wiring}
+use Rattle.monitor_circuit.specs.Wiring.{idle, constant_wiring, signal_wiring, unary_wiring, binary_wiring}
 use Rattle.row_wiring.specs.declared.Own.{Own}
 use Rattle.row_wiring.specs.declared.Operands.{Operands}
 use Rattle.row_wiring.specs.declared.Wiring.{Wiring}
@@ -31,6 +36,23 @@ own_of signals rows k =
       second = 2 * (signals + rows + rows + (3 * (k - 1) + 2));
       third = 2 * (signals + rows + rows + (3 * (k - 1) + 3));
     }
+
+-- what the table of wirings says of a row that has these literals
+module _ (own : Own) where
+  abbrev pub idle_of : MeantOperands
+  idle_of = idle own.activator own.latch own.first own.second own.third
+
+  abbrev pub constant_of : ConstantKind → MeantWiring
+  constant_of = constant_wiring own.activator own.latch own.first own.second own.third
+
+  abbrev pub signal_of : SignalKind → ℕ → MeantWiring
+  signal_of = signal_wiring own.activator own.latch own.first own.second own.third
+
+  abbrev pub unary_of : UnaryKind → ℕ → MeantWiring
+  unary_of = unary_wiring own.activator own.latch own.first own.second own.third
+
+  abbrev pub binary_of : BinaryKind → ℕ → ℕ → MeantWiring
+  binary_of = binary_wiring own.activator own.latch own.first own.second own.third
 
 -- the gates of a row that has these literals, behind so many signals
 abbrev pub wiring_at : Row → ℕ → Own → MeantWiring

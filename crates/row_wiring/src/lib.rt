@@ -2,10 +2,10 @@
 #![tactic(auto)]
 
 ghost use Rattle.std.specs.Prelude.{◌+◌, ◌*◌, ◌≤◌, ◌<◌, ◌≡◌};
-ghost use Rattle.monitor_circuit.specs.Wiring.{awaits as awaitsOf, both as both_of, checks as checksOf, idle as idleOf};
-ghost use Rattle.monitor_circuit.specs.Wiring.{spare as spare_of, waits as waitsOf};
-ghost use Rattle.monitor_circuit.specs.Wiring.{binary_wiring, constant_wiring, signal_wiring, unary_wiring};
+ghost use Rattle.monitor_circuit.specs.Wiring.{awaits as awaits_of, both as both_of, checks as checks_of};
+ghost use Rattle.monitor_circuit.specs.Wiring.{spare as spare_of, waits as waits_of};
 ghost use Rattle.row_wiring.specs.Own.{Small, operands_as, own_of, wiring_as, wiring_at};
+ghost use Rattle.row_wiring.specs.Own.{binary_of, constant_of, idle_of, signal_of, unary_of};
 
 use tables::row::{BinaryKind, ConstantKind, Row, SignalKind, UnaryKind};
 
@@ -28,6 +28,7 @@ pub struct Wiring {
 }
 
 // The literals of a row's own variables: its activator, its latch and its gates.
+// Stays: `Small` in the clauses and no ghost field, since the law `own_literals` makes one of any numbers.
 #[derive(Clone, Copy)]
 pub struct Own {
     pub activator: u32,
@@ -50,30 +51,15 @@ fn spare() -> Operands
     both(0, 0)
 }
 
-// Neither active nor pending.
-fn idle(own: Own) -> Operands
-    requires { Small own }
-    ensures answer { operands_as result ≡ idleOf own.activator own.latch own.first own.second own.third }
-{
-    both(own.activator + 1, own.latch + 1)
-}
-
 // What is not named is: pending 0, failed 0, accept 1.
 fn checks(first: Operands, second: Operands, failed: u32) -> Wiring
-    ensures answer { wiring_as result ≡ checksOf (operands_as first) (operands_as second) failed }
+    ensures answer { wiring_as result ≡ checks_of (operands_as first) (operands_as second) failed }
 {
-    Wiring {
-        first,
-        second,
-        third: spare(),
-        failed,
-        accept: 1,
-        pending: 0,
-    }
+    waits(first, second, spare(), 0, failed)
 }
 
 fn waits(first: Operands, second: Operands, third: Operands, pending: u32, failed: u32) -> Wiring
-    ensures answer { wiring_as result ≡ waitsOf (operands_as first) (operands_as second) (operands_as third) pending failed }
+    ensures answer { wiring_as result ≡ waits_of (operands_as first) (operands_as second) (operands_as third) pending failed }
 {
     Wiring {
         first,
@@ -87,69 +73,92 @@ fn waits(first: Operands, second: Operands, third: Operands, pending: u32, faile
 
 fn awaits(first: Operands, second: Operands, third: Operands, pending: u32, failed: u32) -> Wiring
     requires { pending < 100000 }
-    ensures answer { wiring_as result ≡ awaitsOf (operands_as first) (operands_as second) (operands_as third) pending failed }
+    ensures answer { wiring_as result ≡ awaits_of (operands_as first) (operands_as second) (operands_as third) pending failed }
 {
     Wiring {
-        first,
-        second,
-        third,
-        failed,
         accept: pending + 1,
-        pending,
+        ..waits(first, second, third, pending, failed)
     }
 }
 
-fn constant(kind: ConstantKind, own: Own) -> Wiring
-    ensures answer { wiring_as result ≡ constant_wiring own.activator own.latch own.first own.second own.third kind }
-{
-    match kind {
-        ConstantKind::True => checks(spare(), spare(), 0),
-        ConstantKind::False => checks(spare(), spare(), own.activator),
+impl Own {
+    // Neither active nor pending.
+    fn idle(self) -> Operands
+        requires { Small self }
+        ensures answer { operands_as result ≡ idle_of self }
+    {
+        both(self.activator + 1, self.latch + 1)
     }
-}
 
-// The literal of the signal is given.
-fn signal(kind: SignalKind, a: u32, own: Own) -> Wiring
-    requires { a < 100000 }
-    ensures answer { wiring_as result ≡ signal_wiring own.activator own.latch own.first own.second own.third kind a }
-{
-    match kind {
-        SignalKind::Sig => checks(both(own.activator, a + 1), spare(), own.first),
-        SignalKind::Nsig => checks(both(own.activator, a), spare(), own.first),
+    fn constant(self, kind: ConstantKind) -> Wiring
+        ensures answer { wiring_as result ≡ constant_of self kind }
+    {
+        match kind {
+            ConstantKind::True => checks(spare(), spare(), 0),
+            ConstantKind::False => checks(spare(), spare(), self.activator),
+        }
     }
-}
 
-// Those of the operands' activators are given.
-fn unary(kind: UnaryKind, a: u32, own: Own) -> Wiring
-    requires { (a < 100000) × Small own }
-    ensures answer { wiring_as result ≡ unary_wiring own.activator own.latch own.first own.second own.third kind a }
-{
-    let x = own.first;
-    let waiting = both(x + 1, a + 1);
-    match kind {
-        UnaryKind::Not => checks(spare(), spare(), 0),
-        UnaryKind::Next => waits(both(own.latch, a + 1), spare(), spare(), own.activator, x),
-        UnaryKind::Always => waits(idle(own), waiting, spare(), x + 1, own.second),
-        UnaryKind::Ever => awaits(idle(own), waiting, spare(), own.second, 0),
+    // The literal of the signal is given.
+    fn signal(self, kind: SignalKind, a: u32) -> Wiring
+        requires { a < 100000 }
+        ensures answer { wiring_as result ≡ signal_of self kind a }
+    {
+        match kind {
+            SignalKind::Sig => checks(both(self.activator, a + 1), spare(), self.first),
+            SignalKind::Nsig => checks(both(self.activator, a), spare(), self.first),
+        }
     }
-}
 
-fn binary(kind: BinaryKind, a: u32, b: u32, own: Own) -> Wiring
-    requires { (a < 100000) × (b < 100000) × Small own }
-    ensures answer { wiring_as result ≡ binary_wiring own.activator own.latch own.first own.second own.third kind a b }
-{
-    let z = own.activator;
-    let x = own.first;
-    let y = own.second;
-    let not_a = both(x + 1, a + 1);
-    let not_b = both(x + 1, b + 1);
-    match kind {
-        BinaryKind::And => checks(both(a, b), both(z, x + 1), y),
-        BinaryKind::Or => checks(both(a + 1, b + 1), both(z, x), y),
-        BinaryKind::Weak => waits(idle(own), not_b, both(y, a + 1), y, own.third),
-        BinaryKind::Until => awaits(idle(own), not_b, both(y, a + 1), y, own.third),
-        BinaryKind::Release => waits(idle(own), not_a, not_b, y, own.third),
-        BinaryKind::Srelease => awaits(idle(own), not_a, not_b, y, own.third),
+    // Those of the operands' activators are given.
+    fn unary(self, kind: UnaryKind, a: u32) -> Wiring
+        requires { (a < 100000) × Small self }
+        ensures answer { wiring_as result ≡ unary_of self kind a }
+    {
+        let x = self.first;
+        let waiting = both(x + 1, a + 1);
+        match kind {
+            UnaryKind::Not => checks(spare(), spare(), 0),
+            UnaryKind::Next => waits(both(self.latch, a + 1), spare(), spare(), self.activator, x),
+            UnaryKind::Always => waits(self.idle(), waiting, spare(), x + 1, self.second),
+            UnaryKind::Ever => awaits(self.idle(), waiting, spare(), self.second, 0),
+        }
+    }
+
+    fn binary(self, kind: BinaryKind, a: u32, b: u32) -> Wiring
+        requires { (a < 100000) × (b < 100000) × Small self }
+        ensures answer { wiring_as result ≡ binary_of self kind a b }
+    {
+        let z = self.activator;
+        let x = self.first;
+        let y = self.second;
+        let not_a = both(x + 1, a + 1);
+        let not_b = both(x + 1, b + 1);
+        match kind {
+            BinaryKind::And => checks(both(a, b), both(z, x + 1), y),
+            BinaryKind::Or => checks(both(a + 1, b + 1), both(z, x), y),
+            BinaryKind::Weak => waits(self.idle(), not_b, both(y, a + 1), y, self.third),
+            BinaryKind::Until => awaits(self.idle(), not_b, both(y, a + 1), y, self.third),
+            BinaryKind::Release => waits(self.idle(), not_a, not_b, y, self.third),
+            BinaryKind::Srelease => awaits(self.idle(), not_a, not_b, y, self.third),
+        }
+    }
+
+    // The gates of a row that has these literals, behind so many signals.
+    fn wiring(self, row: Row, signals: u8) -> Wiring
+        requires { Small self }
+        ensures answer { wiring_as result ≡ wiring_at row signals self }
+    {
+        match row {
+            Row::Constant(kind) => self.constant(kind),
+            Row::Signal(kind, s) => self.signal(kind, signal_literal(s)),
+            Row::Unary(kind, a) => self.unary(kind, activator_literal(signals, a)),
+            Row::Binary(kind, a, b) => {
+                let first = activator_literal(signals, a);
+                let second = activator_literal(signals, b);
+                self.binary(kind, first, second)
+            }
+        }
     }
 }
 
@@ -157,30 +166,13 @@ fn binary(kind: BinaryKind, a: u32, b: u32, own: Own) -> Wiring
 fn signal_literal(s: u8) -> u32
     ensures answer { (result ≡ 2 * s) × (result < 100000) }
 {
-    2 * (s as u32)
+    2 * u32::from(s)
 }
 
 fn activator_literal(signals: u8, k: u8) -> u32
     ensures answer { (result ≡ 2 * (signals + k)) × (result < 100000) }
 {
-    2 * (signals as u32 + k as u32)
-}
-
-// The gates of a row that has these literals, behind so many signals.
-fn row_wiring(row: Row, signals: u8, own: Own) -> Wiring
-    requires { Small own }
-    ensures answer { wiring_as result ≡ wiring_at row signals own }
-{
-    match row {
-        Row::Constant(kind) => constant(kind, own),
-        Row::Signal(kind, s) => signal(kind, signal_literal(s), own),
-        Row::Unary(kind, a) => unary(kind, activator_literal(signals, a), own),
-        Row::Binary(kind, a, b) => {
-            let first = activator_literal(signals, a);
-            let second = activator_literal(signals, b);
-            binary(kind, first, second, own)
-        }
-    }
+    2 * (u32::from(signals) + u32::from(k))
 }
 
 // The literals of row k's own variables, k counted from 1.
@@ -190,9 +182,9 @@ pub fn own_of(signals: u8, rows: u8, k: usize) -> Own
     ensures small { Small result }
 {
     let k = k as u32;
-    let activators = signals as u32;
-    let latches = activators + rows as u32;
-    let gates = latches + rows as u32 + 3 * (k - 1);
+    let activators = u32::from(signals);
+    let latches = activators + u32::from(rows);
+    let gates = latches + u32::from(rows) + 3 * (k - 1);
     Own {
         activator: 2 * (activators + k),
         latch: 2 * (latches + k),
@@ -207,6 +199,5 @@ pub fn wiring_of(row: Row, signals: u8, rows: u8, k: usize) -> Wiring
     requires { (1 ≤ k) × (k ≤ 128) }
     ensures answer { wiring_as result ≡ wiring_at row signals (own_of signals rows k) }
 {
-    let own = own_of(signals, rows, k);
-    row_wiring(row, signals, own)
+    own_of(signals, rows, k).wiring(row, signals)
 }
