@@ -1,14 +1,16 @@
 -- The sections as blocks of lines, one block for each row (for each literal in the inputs). Assumes nothing.
-use Prim.Native.Nat.{ℕ, zero, suc, ◌+◌, ◌*◌, ◌-◌, ◌≤◌}
+use Prim.Native.Nat.{ℕ, zero, suc, ◌+◌, ◌*◌, ◌<◌, ◌≤◌}
 use mathlib.Core.Path.{◌≡◌, refl, sym, ap, ap₂, ◌∙◌}
 use mathlib.Core.List.{List, [], ◌∷◌, ◌++◌, map, map-append}
 use native.Mathlib.Numerals.{add-one}
 use native.Mathlib.Omega.{arith}
-use lib.ListN.{get_or}
+use lib.ListN.{get_or, take}
+use Rattle.std.proofs.lemmas.List.{get_or-take}
 use Rattle.tables.specs.Place.{tabulate}
 use Rattle.tables.proofs.Places.{map_tabulate}
 use Rattle.tables.specs.declared.row.ConstantKind.TheVariants.{True}
 use Rattle.tables.specs.declared.row.Row.TheVariants.{Constant}
+use Rattle.tables.specs.declared.row.RowPlace.{RowPlace}
 use Rattle.tables.specs.declared.row.NormalForm.{NormalForm}
 use Rattle.circuit.specs.Circuit.{Latch, Gate}
 use Rattle.writing.specs.Lent.{Wrote}
@@ -91,18 +93,18 @@ module _ (g : NormalForm) where
 
   -- ---- one row more
 
-  -- the wiring as the loops have it, which count k up first and then read the row
+  -- the wiring as the loops have it, which go over the used places
   abbrev pub read_wiring : ℕ → MeantWiring
-  read_wiring k = wiring_at (get_or g.places (k + 1 - 1) (record { row = Constant True })).row g.signals (own_of g.signals g.rows (k + 1))
+  read_wiring k = wiring_at (get_or (take g.rows g.places) k (record { row = Constant True })).row g.signals (own_of g.signals g.rows (k + 1))
 
-  pub read_is : (k : ℕ) → read_wiring k ≡ wiring_of g (suc k)
-  read_is k =
-      let a : k + 1 - 1 ≡ k = omega arith in
-      ap₂ (λ j n. wiring_at (get_or g.places j (record { row = Constant True })).row g.signals (own_of g.signals g.rows n)) a (add-one k)
+  pub read_is : (k : ℕ) → k < g.rows → read_wiring k ≡ wiring_of g (suc k)
+  read_is k h =
+      let e = get_or-take g.rows g.places k (record { row = Constant True }) h in
+      ap₂ (λ (place : RowPlace) n. wiring_at place.row g.signals (own_of g.signals g.rows n)) e (add-one k)
 
-  module _ (k : ℕ) {own : Own} {wiring : Wiring} (eo : own ≡ own_of g.signals g.rows (k + 1)) (ew : wiring_as wiring ≡ read_wiring k) where
+  module _ (k : ℕ) (h : k < g.rows) {own : Own} {wiring : Wiring} (eo : own ≡ own_of g.signals g.rows (k + 1)) (ew : wiring_as wiring ≡ read_wiring k) where
     of_row_lem : {A : Type 0} (x : MeantWiring → A) → x (wiring_as wiring) ≡ x (wiring_of g (suc k))
-    of_row_lem x = ap x (ew ∙ read_is k)
+    of_row_lem x = ap x (ew ∙ read_is k h)
 
     of_own : (x : Own → ℕ) → x own ≡ x (own_of g.signals g.rows (suc k))
     of_own x = ap x (eo ∙ ap (own_of g.signals g.rows) (add-one k))
@@ -128,9 +130,9 @@ module _ (g : NormalForm) where
         (more_lines (gate_line (second_gate g (suc k)) ∷ []) (gate_line (third_gate g (suc k)) ∷ []) (gate_is (λ o. o.second) (λ r. r.second) w') (gate_is (λ o. o.third) (λ r. r.third) w'')))
         (omega arith)
 
-  pub said_more : {before now next : List ℕ} {at k e f : ℕ} (said : Said) {wiring : Wiring} {l : ℕ} → wiring_as wiring ≡ read_wiring k → l ≡ said_of said (wiring_as wiring)
+  pub said_more : {before now next : List ℕ} {at k e f : ℕ} (said : Said) {wiring : Wiring} {l : ℕ} → k < g.rows → wiring_as wiring ≡ read_wiring k → l ≡ said_of said (wiring_as wiring)
       → PutTo (said_block said) 6 before at k now e → Wrote now e (written_lines ((l ∷ []) ∷ [])) next f → f ≤ e + 6 → PutTo (said_block said) 6 before at (k + 1) next f
-  said_more {k = k} said ew el p w h = put_more p (wrote_is (ap (λ x. written_lines ((x ∷ []) ∷ [])) (el ∙ ap (said_of said) (ew ∙ read_is k))) w) h
+  said_more {k = k} said less ew el p w h = put_more p (wrote_is (ap (λ x. written_lines ((x ∷ []) ∷ [])) (el ∙ ap (said_of said) (ew ∙ read_is k less))) w) h
 
 pub input_more : {before now next : List ℕ} {at i e f : ℕ} → PutTo input_block 6 before at i now e → Wrote now e (written_lines ((2 * (i + 1) ∷ []) ∷ [])) next f → f ≤ e + 6
     → PutTo input_block 6 before at (i + 1) next f

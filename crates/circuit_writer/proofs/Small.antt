@@ -1,7 +1,10 @@
 -- All numbers of the circuit have four digits at most. Assumes nothing.
 use Prim.Native.Nat.{ℕ, suc, ◌+◌, ◌<◌}
 use mathlib.Core.Path.{◌≡◌, ap, subst, sym, ◌∙◌}
+use mathlib.Core.List.{[], ◌∷◌}
 use native.Mathlib.Omega.{arith}
+use Rattle.std.specs.List.{All}
+use Rattle.std.proofs.lemmas.List.Elements.{All-cons, All-nil}
 use Rattle.tables.specs.declared.row.NormalForm.{NormalForm}
 use Rattle.normal_form.specs.Form.{InNormalForm}
 use Rattle.monitor_circuit.specs.Wiring.{Operands, Wiring as MeantWiring}
@@ -29,6 +32,13 @@ pub record SmallWiring (w : MeantWiring) : Type 0 where
   pub small_failed : FourDigits w.failed
   pub small_accept : FourDigits w.accept
   pub small_pending : FourDigits w.pending
+
+-- a gate's line
+pub line_small : {l : ℕ} {o : Operands} → l < 100000 → SmallOperands o → All (λ n. n < 100000) (l ∷ o.rhs0 ∷ o.rhs1 ∷ [])
+line_small {l} {o} h s =
+    All-cons (λ n. n < 100000) l (o.rhs0 ∷ o.rhs1 ∷ []) h
+    (All-cons (λ n. n < 100000) o.rhs0 (o.rhs1 ∷ []) (omega (arith, s.small_rhs0))
+    (All-cons (λ n. n < 100000) o.rhs1 [] (omega (arith, s.small_rhs1)) (All-nil (λ n. n < 100000))))
 
 pub said_small : (said : Said) {w : MeantWiring} → SmallWiring w → FourDigits (said_of said w)
 said_small Failed s = s.small_failed
@@ -58,7 +68,7 @@ module _ (g : NormalForm) (ok : InNormalForm g) {k : ℕ} (h : k < g.rows) where
       }
 
   pub read_small : {w : Wiring} → wiring_as w ≡ read_wiring g k → SmallWiring (wiring_as w)
-  read_small e = subst SmallWiring (sym (e ∙ read_is g k)) row_small
+  read_small e = subst SmallWiring (sym (e ∙ read_is g k h)) row_small
 
   -- a row's last gate, as the loop has it
   pub third_small : {own : Own} → own ≡ own_of g.signals g.rows (k + 1) → FourDigits own.third

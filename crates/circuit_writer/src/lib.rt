@@ -10,6 +10,7 @@ ghost use Rattle.circuit_file.specs.Written.{written_circuit};
 ghost use Rattle.monitor_circuit.specs.Monitors.{circuit_of};
 ghost use Rattle.circuit_writer.specs.Answer.{circuit_text, writer_answer, writer_left};
 
+use circuit_line::section::Header;
 use normal_form::sign::Sign;
 use tables::refusal::Outcome;
 use tables::row::{Formula, NormalForm};
@@ -23,16 +24,16 @@ fn put_circuit(buf: &mut [u8], form: NormalForm) -> usize
     requires { InNormalForm form × (11746 ≤ length buf.old) }
     ensures text { Wrote buf.old 0 (written_circuit (circuit_of form)) buf.new result }
 {
-    let signals = form.signals as u32;
-    let rows = form.rows as u32;
-    let a = line_writer::put_header(
-        &mut *buf,
-        signals + 5 * rows,
-        signals + rows,
-        rows,
-        3 * rows,
-        3 * rows,
-    );
+    let signals = form.signals as usize;
+    let rows = form.rows as usize;
+    let header = Header {
+        maximum: signals + 5 * rows,
+        inputs: signals + rows,
+        latches: rows,
+        outputs: 3 * rows,
+        gates: 3 * rows,
+    };
+    let a = line_writer::put_header(&mut *buf, header);
     let b = section::put_inputs(&mut *buf, a, form);
     let c = section::put_latches(&mut *buf, b, form);
     let d = section::put_outputs(&mut *buf, c, form);

@@ -6,8 +6,8 @@ ghost use Rattle.normal_form.specs.Form.{InNormalForm};
 ghost use Rattle.row_wiring.specs.Own.{wiring_as};
 ghost use Rattle.circuit_writer.specs.Section.{gate_lines, input_lines, latch_lines, output_lines, said_lines, said_of};
 
-use line_writer::{put_one, put_three, put_two};
-use row_wiring::Wiring;
+use line_writer::put_numbers;
+use row_wiring::{Wiring, own_of, wiring_of};
 use tables::row::NormalForm;
 
 // What a monitor says, as the outputs have it.
@@ -24,12 +24,10 @@ pub fn put_inputs(buf: &mut [u8], at: usize, form: NormalForm) -> usize
     ensures text { Wrote buf.old at (written_lines (input_lines form)) buf.new result }
     ensures room { result ≤ at + 6 * (form.signals + form.rows) }
 {
-    let inputs = form.signals as u32 + form.rows as u32;
+    let inputs = u32::from(form.signals) + u32::from(form.rows);
     let mut end = at;
-    let mut i = 0;
-    while i < inputs {
-        i += 1;
-        end = put_one(&mut *buf, end, 2 * i);
+    for i in 0..inputs {
+        end = put_numbers(&mut *buf, end, &[2 * (i + 1)]);
     }
     end
 }
@@ -40,16 +38,11 @@ pub fn put_latches(buf: &mut [u8], at: usize, form: NormalForm) -> usize
     ensures text { Wrote buf.old at (written_lines (latch_lines form)) buf.new result }
     ensures room { result ≤ at + 12 * form.rows }
 {
-    let rows = form.rows as usize;
     let mut end = at;
-    let mut k = 0;
-    while k < rows {
-        k += 1;
-        let place = form.places[k - 1];
-        let row = place.row;
-        let own = row_wiring::own_of(form.signals, form.rows, k);
-        let wiring = row_wiring::wiring_of(row, form.signals, form.rows, k);
-        end = put_two(&mut *buf, end, own.latch, wiring.pending);
+    for (k, place) in form.places[..form.rows as usize].iter().enumerate() {
+        let own = own_of(form.signals, form.rows, k + 1);
+        let wiring = wiring_of(place.row, form.signals, form.rows, k + 1);
+        end = put_numbers(&mut *buf, end, &[own.latch, wiring.pending]);
     }
     end
 }
@@ -70,15 +63,10 @@ fn put_said(buf: &mut [u8], at: usize, form: NormalForm, said: Said) -> usize
     ensures text { Wrote buf.old at (written_lines (said_lines said form)) buf.new result }
     ensures room { result ≤ at + 6 * form.rows }
 {
-    let rows = form.rows as usize;
     let mut end = at;
-    let mut k = 0;
-    while k < rows {
-        k += 1;
-        let place = form.places[k - 1];
-        let row = place.row;
-        let wiring = row_wiring::wiring_of(row, form.signals, form.rows, k);
-        end = put_one(&mut *buf, end, said_of(said, wiring));
+    for (k, place) in form.places[..form.rows as usize].iter().enumerate() {
+        let wiring = wiring_of(place.row, form.signals, form.rows, k + 1);
+        end = put_numbers(&mut *buf, end, &[said_of(said, wiring)]);
     }
     end
 }
@@ -100,21 +88,14 @@ pub fn put_gates(buf: &mut [u8], at: usize, form: NormalForm) -> usize
     ensures text { Wrote buf.old at (written_lines (gate_lines form)) buf.new result }
     ensures room { result ≤ at + 54 * form.rows }
 {
-    let rows = form.rows as usize;
     let mut end = at;
-    let mut k = 0;
-    while k < rows {
-        k += 1;
-        let place = form.places[k - 1];
-        let row = place.row;
-        let own = row_wiring::own_of(form.signals, form.rows, k);
-        let wiring = row_wiring::wiring_of(row, form.signals, form.rows, k);
-        let first = wiring.first;
-        let second = wiring.second;
-        let third = wiring.third;
-        let a = put_three(&mut *buf, end, own.first, first.rhs0, first.rhs1);
-        let b = put_three(&mut *buf, a, own.second, second.rhs0, second.rhs1);
-        end = put_three(&mut *buf, b, own.third, third.rhs0, third.rhs1);
+    for (k, place) in form.places[..form.rows as usize].iter().enumerate() {
+        let own = own_of(form.signals, form.rows, k + 1);
+        let wiring = wiring_of(place.row, form.signals, form.rows, k + 1);
+        let (first, second, third) = (wiring.first, wiring.second, wiring.third);
+        let a = put_numbers(&mut *buf, end, &[own.first, first.rhs0, first.rhs1]);
+        let b = put_numbers(&mut *buf, a, &[own.second, second.rhs0, second.rhs1]);
+        end = put_numbers(&mut *buf, b, &[own.third, third.rhs0, third.rhs1]);
     }
     end
 }

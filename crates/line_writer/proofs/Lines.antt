@@ -1,7 +1,7 @@
 -- Lines of numbers, put one behind the other. Assumes nothing.
 use Prim.Native.Nat.{ℕ, zero, suc, ◌+◌, ◌*◌, ◌≤◌}
 use mathlib.Core.Path.{◌≡◌, refl, sym, ap, ◌∙◌}
-use mathlib.Core.List.{List, [], ◌∷◌, ◌++◌, append_assoc}
+use mathlib.Core.List.{List, [], ◌∷◌, ◌++◌, append_assoc, append-nil}
 use native.Mathlib.Nat.{suc-mul}
 use native.Mathlib.Numerals.{add-one}
 use native.Mathlib.Omega.{arith}
@@ -13,19 +13,29 @@ use Rattle.circuit_file.specs.Written.{spaced, written_lines}
 
 -- ---- one line
 
-pub last_part : {b m : List ℕ} {at e : ℕ} (x : ℕ) → Wrote b at (decimal x ++ (10 ∷ [])) m e → Wrote b at (written_lines ((x ∷ []) ∷ [])) m e
-unfolding written_lines spaced
-last_part x w = w
+-- numbers, each with a space behind it
+unfoldable pub parts : List ℕ → List ℕ
+parts [] = []
+parts (x ∷ xs) = (decimal x ++ (32 ∷ [])) ++ parts xs
+
+pub parts_more : (xs : List ℕ) (x : ℕ) → parts xs ++ (decimal x ++ (32 ∷ [])) ≡ parts (xs ++ (x ∷ []))
+unfolding parts
+parts_more [] x = sym (append-nil _)
+parts_more (y ∷ ys) x = append_assoc (decimal y ++ (32 ∷ [])) (parts ys) (decimal x ++ (32 ∷ [])) ∙ ap (λ t. (decimal y ++ (32 ∷ [])) ++ t) (parts_more ys x)
 
 part_line : (x y : ℕ) (ys : List ℕ) → (decimal x ++ (32 ∷ [])) ++ written_lines ((y ∷ ys) ∷ []) ≡ written_lines ((x ∷ y ∷ ys) ∷ [])
 unfolding written_lines spaced
 part_line x y ys =
     append_assoc (decimal x) (32 ∷ []) (spaced (y ∷ ys) ++ (10 ∷ [])) ∙ sym (append_assoc (decimal x) (32 ∷ spaced (y ∷ ys)) (10 ∷ []))
 
--- a number in front of others
-pub more_part : {b m a : List ℕ} {at e f : ℕ} (x y : ℕ) (ys : List ℕ) → Wrote b at (decimal x ++ (32 ∷ [])) m e
-    → Wrote m e (written_lines ((y ∷ ys) ∷ [])) a f → Wrote b at (written_lines ((x ∷ y ∷ ys) ∷ [])) a f
-more_part x y ys v w = wrote_is (part_line x y ys) (wrote_both v w)
+-- behind the last of them the line ends
+pub parts_end : (xs : List ℕ) (x : ℕ) → parts xs ++ (decimal x ++ (10 ∷ [])) ≡ written_lines ((xs ++ (x ∷ [])) ∷ [])
+unfolding parts written_lines spaced
+parts_end [] x = refl
+parts_end (y ∷ []) x = append_assoc (decimal y ++ (32 ∷ [])) [] (decimal x ++ (10 ∷ [])) ∙ part_line y x []
+parts_end (y ∷ z ∷ zs) x =
+    append_assoc (decimal y ++ (32 ∷ [])) (parts (z ∷ zs)) (decimal x ++ (10 ∷ []))
+    ∙ (ap (λ t. (decimal y ++ (32 ∷ [])) ++ t) (parts_end (z ∷ zs) x) ∙ part_line y z (zs ++ (x ∷ [])))
 
 -- ---- lines
 

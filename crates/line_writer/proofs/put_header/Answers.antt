@@ -1,7 +1,11 @@
 use native.Mathlib.Omega.{arith}
+use borrow.Author.Rules.{rules}
+use Rattle.std.proofs.lemmas.List.Elements.{All-cons, All-nil}
 use Rattle.writing.proofs.Texts.{wrote_both}
-use Rattle.line_writer.proofs.Lines.{last_part, more_part}
 use Rattle.line_writer.proofs.put_header.Goals as goal
 
-pub returns : goal.returns
-returns c = record { text = wrote_both c.put-a.ensures.text (more_part _ _ _ c.put_part-b.ensures.text (more_part _ _ _ c.put_part-c.ensures.text (more_part _ _ _ c.put_part-d.ensures.text (more_part _ _ _ c.put_part-e.ensures.text (last_part _ c.put_part.ensures.text))))); room = omega (arith, c.put-a.ensures.text.next, c.put_part-b.ensures.room, c.put_part-c.ensures.room, c.put_part-d.ensures.room, c.put_part-e.ensures.room, c.put_part.ensures.room) }
+pub put_numbers-requires : goal.put_numbers-requires
+put_numbers-requires c = (omega arith, omega (arith, c.put-a.ensures.text.next, c.put-a.ensures.text.size), search (rules, All-cons, All-nil) depth 8)
+
+pub returns-clause-text : goal.returns-clause-text
+returns-clause-text c = wrote_both c.put-a.ensures.text c.put_numbers.ensures.text

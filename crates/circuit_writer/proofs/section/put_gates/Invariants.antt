@@ -1,10 +1,6 @@
-use Prim.Native.Nat.{◌-◌, ◌≤◌}
 use Rattle.line_writer.proofs.Lines.{PutTo}
 use Rattle.circuit_writer.proofs.Sections.{gate_block}
 use Rattle.circuit_writer.proofs.section.put_gates.Given as goal
 
 abbrev pub invariant-loop-k : goal.invariant-loop-k
-invariant-loop-k l = (l.k ≤ l.form.rows) × PutTo (gate_block l.form) 54 l.initial.buf l.at l.k l.buf l.end
-
-abbrev pub decreases-loop-k : goal.decreases-loop-k
-decreases-loop-k l = l.form.rows - l.k
+invariant-loop-k l = PutTo (gate_block l.fn.form) 54 l.initial.buf l.at l.k l.buf l.end
