@@ -1,13 +1,15 @@
 -- The lanes of the rows: word by word, each digit by digit. Assumes nothing.
-use mathlib.Core.Path.{◌≡◌, refl, sym, ◌∙◌}
+use mathlib.Core.Path.{◌≡◌, refl, sym, ap, ◌∙◌}
 use mathlib.Core.Bool.{Bool, false}
-use mathlib.Core.List.{List, [], ◌∷◌}
+use mathlib.Core.List.{List, [], ◌∷◌, ◌++◌}
 use Prim.Native.Nat.{ℕ, zero, suc, ◌+◌, ◌*◌, ◌-◌, ◌^◌, ◌≤◌, ◌<◌}
 use native.Mathlib.Nat.{pow-suc, zero-add}
 use native.Mathlib.Omega.{arith}
 use lib.Dec.{eqb}
 use lib.Pow.{pow_mono}
-use lib.ListN.{length, get_or, replicate, length-map, get_or-eq_default, get_or-map}
+use lib.ListN.{length, get_or, take, drop, replicate, length-append, length-drop, length-map, get_or-eq_default, get_or-map}
+use Rattle.std.specs.List.{slice_range}
+use lib.Seq.{length-take-le, get_or-append_seam, get_or-take, get_or-drop, take-append_seam, take-take}
 use Rattle.tables.specs.Choice.{pick}
 use Rattle.tables.specs.Place.{tabulate_from, placed}
 use Rattle.tables.specs.Bit.{word_from, lane_of}
@@ -53,10 +55,44 @@ word_end {from = from} {count = count} {left = left} inv h =
     let k : from + 0 ≡ from = omega arith in
     rw (z, n, k) at inv.goes
 
--- the next digit of a row, as the code reads it
-pub digit_more : (value : List ℕ) {from count left word b : ℕ} → WordAt (λ c. get_or (digits_in value) c false) from count left word → 0 < left
-    → b ≡ pick (eqb (get_or value (from + (left - 1)) 0) 49) 1 0 → WordAt (λ c. get_or (digits_in value) c false) from count (left - 1) (word * 2 + b)
-digit_more value {from} {count} {left} inv h e = word_more inv h (e ∙ rw (get_or-map (λ d. eqb d 49) value (from + (left - 1)) 0))
+-- the digits that the code has not read yet, and the word of those behind them
+pub record DigitsLeft (value : List ℕ) (from count : ℕ) (rest : List ℕ) (word : ℕ) : Type 0 where
+  pub front : rest ≡ take (length rest) (drop from value)
+  pub word_at : WordAt (λ c. get_or (digits_in value) c false) from count (length rest) word
+
+pub digits_start : (value : List ℕ) (from count : ℕ) {rest : List ℕ} → from + count ≤ length value → rest ≡ slice_range value from (from + count)
+    → DigitsLeft value from count rest 0
+digits_start value from count {rest} h e =
+    let n : from + count - from ≡ count = omega arith in
+    let r : rest ≡ take count (drop from value) = rw n at e in
+    let l : length rest ≡ count = ap length r ∙ length-take-le count (drop from value) (omega (arith, length-drop from value)) in
+    record { front = rw l r; word_at = rw l word_start }
+
+module _ {value : List ℕ} {from count : ℕ} {rest : List ℕ} {word : ℕ} (inv : DigitsLeft value from count rest word) (next : List ℕ) (digit : ℕ) (e : rest ≡ next ++ (digit ∷ [])) where
+  longer : length rest ≡ length next + 1
+  longer = ap length e ∙ length-append next (digit ∷ [])
+
+  pub digits_room : count ≤ 64 → word * 2 + 1 < 2 ^ 64
+  digits_room l = word_room inv.word_at (omega (arith, longer)) l
+
+  -- the last digit of the rest
+  is : digit ≡ get_or value (from + length next) 0
+  is =
+      sym (get_or-append_seam next digit [] 0)
+      ∙ (ap (λ r. get_or r (length next) 0) (sym e ∙ inv.front)
+      ∙ (get_or-take (length rest) (drop from value) (length next) 0 (omega (arith, longer)) ∙ get_or-drop from value (length next) 0))
+
+  pub digits_more : {b : ℕ} → b ≡ pick (eqb digit 49) 1 0 → DigitsLeft value from count next (word * 2 + b)
+  digits_more {b} g =
+      let one : length rest - 1 ≡ length next = omega (arith, longer) in
+      record {
+        front = sym (take-append_seam next (digit ∷ [])) ∙ (ap (take (length next)) (sym e ∙ inv.front) ∙ take-take (length next) (length rest) (drop from value) (omega (arith, longer)));
+        word_at = rw one at (word_more inv.word_at (omega (arith, longer)) (g ∙ rw (one, is, get_or-map (λ d. eqb d 49) value (from + length next) 0)));
+      }
+
+pub digits_end : {value : List ℕ} {from count : ℕ} {rest : List ℕ} {word : ℕ} → DigitsLeft value from count rest word → length rest ≡ 0
+    → word ≡ word_from count from (λ c. get_or (digits_in value) c false)
+digits_end inv e = word_end inv.word_at (omega (arith, e))
 
 -- ---- a word that is not full: behind the last digit there is none
 word_none : (n k : ℕ) (f : ℕ → Bool) → ((i : ℕ) → k ≤ i → f i ≡ false) → word_from n k f ≡ 0

@@ -21,10 +21,8 @@ fn digits_to_word(value: &[u8], from: usize, count: usize) -> u64
     ensures answer { result ≡ word_from count from (λ c. get_or (digits_in value.now) c false) }
 {
     let mut word = 0;
-    let mut left = count;
-    while 0 < left {
-        left -= 1;
-        word = word * 2 + bit(value[from + left]);
+    for digit in value[from..from + count].iter().rev() {
+        word = word * 2 + bit(*digit);
     }
     word
 }
