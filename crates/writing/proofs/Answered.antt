@@ -1,6 +1,6 @@
 -- What an answered call of a writing service left in the lent buffer. Assumes nothing.
 use Prim.Native.Nat.{ℕ}
-use mathlib.Core.Path.{◌≡◌, refl, sym, ap, ◌∙◌}
+use mathlib.Core.Path.{◌≡◌, refl}
 use mathlib.Core.Bool.{Bool, true, false}
 use mathlib.Core.List.{List, ◌++◌}
 use lib.Dec.{leb}
@@ -11,7 +11,6 @@ use Rattle.tables.specs.Refusal.{on_outcome}
 use Rattle.tables.specs.declared.refusal.Outcome.{Outcome}
 use Rattle.tables.specs.declared.refusal.Outcome.TheVariants.{Accepted, Refused}
 use Rattle.tables.proofs.Choices.{clash}
-use Rattle.writing.specs.declared.answer.Bytes.{Bytes}
 use Rattle.writing.specs.declared.answer.Bytes.TheVariants.{Count, Refused as BytesRefused}
 use Rattle.writing.specs.Answer.{too_short, written_answer}
 use Rattle.writing.specs.Lent.{overlaid}
