@@ -1,55 +1,70 @@
 -- Lanes word by word. Assumes nothing.
-use Prim.Native.Nat.{ℕ, zero, suc, ◌+◌, ◌-◌, ◌≤◌, ◌<◌, ◌%◌, ◌^◌}
+use Prim.Native.Nat.{ℕ, zero, suc, ◌+◌, ◌*◌, ◌-◌, ◌≤◌, ◌<◌, ◌%◌, ◌^◌}
 use mathlib.Core.Path.{◌≡◌, refl, sym, ap, ap₂, ◌∙◌}
 use mathlib.Core.Bool.{Bool, true, false}
-use mathlib.Core.List.{[], ◌∷◌}
+use mathlib.Core.List.{List, [], ◌∷◌}
 use native.Mathlib.Decide.{ℕ_discrete, dec_lt}
 use native.Mathlib.Omega.{arith}
 use lib.Dec.{ltb, eqb}
-use lib.ListN.{get_or}
+use lib.ListN.{length, get_or, set}
+use lib.Seq.{get_or-set_same, get_or-set_other}
 use borrow.Author.Tests.{eq-eqb, ne_eqb, lt-ltb, le-ltb}
 use Rattle.tables.specs.Choice.{pick}
 use Rattle.tables.specs.Place.{tabulate_from}
 use Rattle.tables.specs.Bit.{word_from, lane_of}
 use Rattle.tables.specs.declared.trace.Lane.{Lane}
+use Rattle.tables.proofs.Places.{get_d_tabulate, tabulate_get_d, tabulate_ext}
 use Rattle.tables.proofs.Bits.{word_ext, lane_ext, OneMore}
 use Rattle.meaning.specs.Approximant.{expand, approximant}
 use Rattle.meaning.proofs.Streams.{approximant_split}
+use Rattle.lanes.specs.Word.{WordByWord}
 use Rattle.lanes.proofs.Words.{word_odd, word_every}
 
--- the four words of a lane
-module _ (f : ℕ → Bool) where
-  pub lane_words : lane_of f ≡ record { words = word_from 64 0 f ∷ word_from 64 64 f ∷ word_from 64 128 f ∷ word_from 64 192 f ∷ [] }
-  unfolding lane_of tabulate_from
-  lane_words = refl
+-- the words of a lane by their places
+pub word_at : (l : Lane) (f : ℕ → Bool) → l ≡ lane_of f → (i : ℕ) → i < 4 → get_or l.words i 0 ≡ word_from 64 (i * 64) f
+unfolding lane_of
+word_at l f e i h = ap (λ (x : Lane). get_or x.words i 0) e ∙ get_d_tabulate 4 (λ j. word_from 64 (j * 64) f) i 0 h
 
--- a word of a lane
-pub word_at_0 : (l : Lane) (f : ℕ → Bool) → l ≡ lane_of f → get_or l.words 0 0 ≡ word_from 64 0 f
-word_at_0 l f e = ap (λ (x : Lane). get_or x.words 0 0) (e ∙ lane_words f)
-
-pub word_at_1 : (l : Lane) (f : ℕ → Bool) → l ≡ lane_of f → get_or l.words 1 0 ≡ word_from 64 64 f
-word_at_1 l f e = ap (λ (x : Lane). get_or x.words 1 0) (e ∙ lane_words f)
-
-pub word_at_2 : (l : Lane) (f : ℕ → Bool) → l ≡ lane_of f → get_or l.words 2 0 ≡ word_from 64 128 f
-word_at_2 l f e = ap (λ (x : Lane). get_or x.words 2 0) (e ∙ lane_words f)
-
-pub word_at_3 : (l : Lane) (f : ℕ → Bool) → l ≡ lane_of f → get_or l.words 3 0 ≡ word_from 64 192 f
-word_at_3 l f e = ap (λ (x : Lane). get_or x.words 3 0) (e ∙ lane_words f)
-
-pub four : (f : ℕ → Bool) (p q r s : ℕ) → p ≡ word_from 64 0 f → q ≡ word_from 64 64 f → r ≡ word_from 64 128 f → s ≡ word_from 64 192 f → ◌≡◌ {A = Lane} (record { words = p ∷ q ∷ r ∷ s ∷ [] }) (lane_of f)
-four f p q r s a b c d = rw (a, b, c, d) (sym (lane_words f))
+pub lane_by_words : (l : Lane) (f : ℕ → Bool) → length l.words ≡ 4 → ((i : ℕ) → i < 4 → get_or l.words i 0 ≡ word_from 64 (i * 64) f) → l ≡ lane_of f
+unfolding lane_of
+lane_by_words l f long is =
+    ap (λ ws. record { words = ws }) (sym (tabulate_get_d l.words 4 0 long) ∙ tabulate_ext 4 (λ i. get_or l.words i 0) (λ i. word_from 64 (i * 64) f) is)
 
 -- an operation on words, bit by bit, is one on lanes
-module _ (op : ℕ → ℕ → ℕ) (on : Bool → Bool → Bool) (law : (n b : ℕ) (f g : ℕ → Bool) → op (word_from n b f) (word_from n b g) ≡ word_from n b (λ i. on (f i) (g i))) where
-  pub lane_pointwise : (l m : Lane) (f g : ℕ → Bool) → l ≡ lane_of f → m ≡ lane_of g
-      → ◌≡◌ {A = Lane} (record { words = op (get_or l.words 0 0) (get_or m.words 0 0) ∷ op (get_or l.words 1 0) (get_or m.words 1 0) ∷ op (get_or l.words 2 0) (get_or m.words 2 0) ∷ op (get_or l.words 3 0) (get_or m.words 3 0) ∷ [] }) (lane_of (λ i. on (f i) (g i)))
-  lane_pointwise l m f g p q = four (λ i. on (f i) (g i)) _ _ _ _
-      (ap₂ op (word_at_0 l f p) (word_at_0 m g q) ∙ law 64 0 f g)
-      (ap₂ op (word_at_1 l f p) (word_at_1 m g q) ∙ law 64 64 f g)
-      (ap₂ op (word_at_2 l f p) (word_at_2 m g q) ∙ law 64 128 f g)
-      (ap₂ op (word_at_3 l f p) (word_at_3 m g q) ∙ law 64 192 f g)
+module _ (op : ℕ → ℕ → ℕ) (on : Bool → Bool → Bool) (law : (b : ℕ) (f g : ℕ → Bool) → op (word_from 64 b f) (word_from 64 b g) ≡ word_from 64 b (λ i. on (f i) (g i))) where
+  pub lane_pointwise : (l m r : Lane) → WordByWord (λ x y z. z ≡ op x y) l m r → (f g : ℕ → Bool) → l ≡ lane_of f → m ≡ lane_of g → r ≡ lane_of (λ i. on (f i) (g i))
+  lane_pointwise l m r w f g p q =
+      lane_by_words r (λ i. on (f i) (g i)) w.0 (λ i h. w.1 i h ∙ ap₂ op (word_at l f p i h) (word_at m g q i h) ∙ law (i * 64) f g)
+
+-- a lane that is made from its last word back: the words from the i-th on are those of f, and the bit at cycle i * 64 goes over to the word before
+pub record MadeFrom (f bit : ℕ → Bool) (i : ℕ) (words : List ℕ) (later : ℕ) : Type 0 where
+  pub made : (j : ℕ) → i ≤ j → j < 4 → get_or words j 0 ≡ word_from 64 (j * 64) f
+  pub over : later % 2 ≡ pick (bit (i * 64)) 1 0
+
+module _ (f bit : ℕ → Bool) (words : List ℕ) where
+  pub made_none : bit 256 ≡ false → MadeFrom f bit 4 words 0
+  made_none e = record { made = λ j l h. absurd (omega arith); over = rw e }
+
+  pub made_more : (i later : ℕ) → length words ≡ 4 → 0 < i → i ≤ 4 → MadeFrom f bit i words later → (word next : ℕ) → word ≡ word_from 64 ((i - 1) * 64) f
+      → next % 2 ≡ pick (bit ((i - 1) * 64)) 1 0 → MadeFrom f bit (i - 1) (set words (i - 1) word) next
+  made_more i later long some most m word next e o = record { made = λ j l h. by j l h (ℕ_discrete j (i - 1)); over = o }
+    where
+      within : i - 1 < length words
+      within = omega arith
+
+      by : (j : ℕ) → i - 1 ≤ j → j < 4 → Dec (j ≡ i - 1) → get_or (set words (i - 1) word) j 0 ≡ word_from 64 (j * 64) f
+      by j l h (yes same) = rw (same, get_or-set_same words (i - 1) word 0 within) e
+      by j l h (no n) = get_or-set_other words (i - 1) j word 0 n ∙ m.made j (omega arith) h
+
+  pub made_all : (i later : ℕ) → i ≤ 0 → length words ≡ 4 → MadeFrom f bit i words later → ◌≡◌ {A = Lane} (record { words = words }) (lane_of f)
+  made_all i later whole long m = lane_by_words (record { words = words }) f long (λ j h. m.made j (omega arith) h)
 
 -- ---- an expansion of until over the whole lane
+
+-- what carry_from promises
+abbrev Carried : ℕ → ℕ → ℕ → ℕ → Type 0
+Carried keep goal later r =
+    (b : ℕ) (k g : ℕ → Bool) (x : Bool) → keep ≡ word_from 64 b k → goal ≡ word_from 64 b g → later % 2 ≡ pick x 1 0 → r ≡ word_from 64 b (λ i. approximant k g x (b + 64 - i) i)
 
 module _ (k g : ℕ → Bool) where
   abbrev pub to_end : ℕ → Bool
@@ -63,29 +78,15 @@ module _ (k g : ℕ → Bool) where
       ∙ sym (approximant_split k g false (b + 64 - i) (256 - (b + 64)) i)
       ∙ ap (λ d. approximant k g false d i) n)
 
-  pub first_bit : (b : ℕ) → word_from 64 b to_end % 2 ≡ pick (to_end b) 1 0
-  first_bit b = word_odd 63 b to_end
-
-  -- what carry_from promises
-  abbrev Carried : ℕ → ℕ → ℕ → ℕ → Type 0
-  Carried keep goal later r =
-      (b : ℕ) (k g : ℕ → Bool) (x : Bool) → keep ≡ word_from 64 b k → goal ≡ word_from 64 b g → later % 2 ≡ pick x 1 0 → r ≡ word_from 64 b (λ i. approximant k g x (b + 64 - i) i)
-
-  module _ (keep goal : Lane) (p : keep ≡ lane_of k) (q : goal ≡ lane_of g) where
-    pub lane_carry :
-        (r₀ r₁ r₂ r₃ : ℕ)
-        → Carried (get_or keep.words 3 0) (get_or goal.words 3 0) 0 r₃
-        → Carried (get_or keep.words 2 0) (get_or goal.words 2 0) r₃ r₂
-        → Carried (get_or keep.words 1 0) (get_or goal.words 1 0) r₂ r₁
-        → Carried (get_or keep.words 0 0) (get_or goal.words 0 0) r₁ r₀
-        → ◌≡◌ {A = Lane} (record { words = r₀ ∷ r₁ ∷ r₂ ∷ r₃ ∷ [] }) (lane_of to_end)
-    unfolding approximant
-    lane_carry r₀ r₁ r₂ r₃ c₃ c₂ c₁ c₀ =
-        let w₃ : r₃ ≡ word_from 64 192 to_end = c₃ 192 k g (to_end 256) (word_at_3 keep k p) (word_at_3 goal g q) refl ∙ word_whole 192 (omega arith) in
-        let w₂ : r₂ ≡ word_from 64 128 to_end = c₂ 128 k g (to_end 192) (word_at_2 keep k p) (word_at_2 goal g q) (ap (λ x. x % 2) w₃ ∙ first_bit 192) ∙ word_whole 128 (omega arith) in
-        let w₁ : r₁ ≡ word_from 64 64 to_end = c₁ 64 k g (to_end 128) (word_at_1 keep k p) (word_at_1 goal g q) (ap (λ x. x % 2) w₂ ∙ first_bit 128) ∙ word_whole 64 (omega arith) in
-        let w₀ : r₀ ≡ word_from 64 0 to_end = c₀ 0 k g (to_end 64) (word_at_0 keep k p) (word_at_0 goal g q) (ap (λ x. x % 2) w₁ ∙ first_bit 64) ∙ word_whole 0 (omega arith) in
-        four to_end r₀ r₁ r₂ r₃ w₀ w₁ w₂ w₃
+  module _ (keep goal : Lane) (p : keep ≡ lane_of k) (q : goal ≡ lane_of g) (words : List ℕ) where
+    pub carry_more : (i later r : ℕ) → length words ≡ 4 → 0 < i → i ≤ 4 → Carried (get_or keep.words (i - 1) 0) (get_or goal.words (i - 1) 0) later r
+        → MadeFrom to_end to_end i words later → MadeFrom to_end to_end (i - 1) (set words (i - 1) r) r
+    carry_more i later r long some most c m =
+        let b : i * 64 ≡ (i - 1) * 64 + 64 = omega arith in
+        let word : r ≡ word_from 64 ((i - 1) * 64) to_end =
+        c ((i - 1) * 64) k g (to_end ((i - 1) * 64 + 64)) (word_at keep k p (i - 1) (omega arith)) (word_at goal g q (i - 1) (omega arith)) (rw b at m.over)
+        ∙ word_whole ((i - 1) * 64) (omega arith) in
+        made_more to_end to_end words i later long some most m r r word (ap (λ x. x % 2) word ∙ word_odd 63 ((i - 1) * 64) to_end)
 
 -- ---- one cycle later
 
@@ -93,19 +94,14 @@ module _ (k g : ℕ → Bool) where
 abbrev NextOf : ℕ → ℕ → ℕ → Type 0
 NextOf word later r = (b : ℕ) (f : ℕ → Bool) → word ≡ word_from 64 b f → later % 2 ≡ pick (f (b + 64)) 1 0 → r ≡ word_from 64 b (λ i. f (suc i))
 
-module _ (f : ℕ → Bool) (end : f 256 ≡ false) (lane : Lane) (p : lane ≡ lane_of f) where
-  pub lane_next :
-      (r₀ r₁ r₂ r₃ : ℕ)
-      → NextOf (get_or lane.words 0 0) (get_or lane.words 1 0) r₀
-      → NextOf (get_or lane.words 1 0) (get_or lane.words 2 0) r₁
-      → NextOf (get_or lane.words 2 0) (get_or lane.words 3 0) r₂
-      → NextOf (get_or lane.words 3 0) 0 r₃
-      → ◌≡◌ {A = Lane} (record { words = r₀ ∷ r₁ ∷ r₂ ∷ r₃ ∷ [] }) (lane_of (λ i. f (suc i)))
-  lane_next r₀ r₁ r₂ r₃ n₀ n₁ n₂ n₃ = four (λ i. f (suc i)) r₀ r₁ r₂ r₃
-      (n₀ 0 f (word_at_0 lane f p) (ap (λ x. x % 2) (word_at_1 lane f p) ∙ word_odd 63 64 f))
-      (n₁ 64 f (word_at_1 lane f p) (ap (λ x. x % 2) (word_at_2 lane f p) ∙ word_odd 63 128 f))
-      (n₂ 128 f (word_at_2 lane f p) (ap (λ x. x % 2) (word_at_3 lane f p) ∙ word_odd 63 192 f))
-      (n₃ 192 f (word_at_3 lane f p) (rw end))
+module _ (f : ℕ → Bool) (lane : Lane) (p : lane ≡ lane_of f) (words : List ℕ) where
+  pub next_more : (i later r : ℕ) → length words ≡ 4 → 0 < i → i ≤ 4 → NextOf (get_or lane.words (i - 1) 0) later r
+      → MadeFrom (λ c. f (suc c)) f i words later → MadeFrom (λ c. f (suc c)) f (i - 1) (set words (i - 1) r) (get_or lane.words (i - 1) 0)
+  next_more i later r long some most n m =
+      let b : i * 64 ≡ (i - 1) * 64 + 64 = omega arith in
+      let here = word_at lane f p (i - 1) (omega arith) in
+      made_more (λ c. f (suc c)) f words i later long some most m r (get_or lane.words (i - 1) 0) (n ((i - 1) * 64) f here (rw b at m.over))
+      (ap (λ x. x % 2) here ∙ word_odd 63 ((i - 1) * 64) f)
 
 -- ---- one cycle alone
 
@@ -114,8 +110,13 @@ unfolding word_from
 word_none zero b = refl
 word_none (suc n) b = rw (word_none n (suc b))
 
+-- four times the same word
+lane_alike : (f : ℕ → Bool) (w : ℕ) → ((b : ℕ) → w ≡ word_from 64 b f) → ◌≡◌ {A = Lane} (record { words = w ∷ w ∷ w ∷ w ∷ [] }) (lane_of f)
+unfolding lane_of tabulate_from
+lane_alike f w is = rw (← is 0, ← is 64, ← is 128, ← is 192) refl
+
 pub lane_none : ◌≡◌ {A = Lane} (record { words = 0 ∷ 0 ∷ 0 ∷ 0 ∷ [] }) (lane_of (λ i. false))
-lane_none = four (λ i. false) 0 0 0 0 (sym (word_none 64 0)) (sym (word_none 64 64)) (sym (word_none 64 128)) (sym (word_none 64 192))
+lane_none = lane_alike (λ i. false) 0 (λ b. sym (word_none 64 b))
 
 pub one_more : (c : ℕ) → OneMore (λ i. false) (λ i. eqb i c) c
 one_more c = record { was = refl; is = eq-eqb c c refl; other = λ i n. ne_eqb i c n }
@@ -130,10 +131,7 @@ last_cycle n h i = by (ℕ_discrete i (n - 1))
 -- ---- every cycle, and those up to the last
 
 pub lane_every : (w : ℕ) → w + 1 ≡ 2 ^ 64 → ◌≡◌ {A = Lane} (record { words = w ∷ w ∷ w ∷ w ∷ [] }) (lane_of (λ i. true))
-lane_every w e = four (λ i. true) w w w w (is 0) (is 64) (is 128) (is 192)
-  where
-    is : (b : ℕ) → w ≡ word_from 64 b (λ i. true)
-    is b = omega (arith, word_every 64 b)
+lane_every w e = lane_alike (λ i. true) w (λ b. omega (arith, word_every 64 b))
 
 up_to : (n d i : ℕ) → n ≤ i + d → approximant (λ j. true) (λ j. eqb (suc j) n) false d i ≡ ltb i n
 unfolding approximant

@@ -1,8 +1,7 @@
 -- Any lane, of which only the cycles of another lane count. Assumes nothing.
 use Prim.Native.Nat.{ℕ, zero, suc, ◌-◌, ◌*◌, ◌/◌, ◌%◌, ◌^◌, min}
-use mathlib.Core.Path.{◌≡◌, ap, ◌∙◌}
+use mathlib.Core.Path.{◌≡◌, refl, ap, ◌∙◌}
 use mathlib.Core.Bool.{Bool, true, false, ◌&&◌}
-use mathlib.Core.List.{[], ◌∷◌}
 use native.Mathlib.Nat.{pow-suc, pow-zero, div-one, div-div-eq-div-mul}
 use native.Mathlib.Decide.{ℕ_discrete}
 use native.Mathlib.Omega.{arith}
@@ -14,7 +13,8 @@ use Rattle.tables.specs.Bit.{bit_at, word_from, lane_of}
 use Rattle.tables.specs.declared.trace.Lane.{Lane}
 use Rattle.tables.proofs.Bits.{word_ext, lane_ext, bit_of_lane}
 use Rattle.lanes.proofs.Words.{word_half, word_odd}
-use Rattle.lanes.proofs.LaneWords.{word_at_0, word_at_1, word_at_2, word_at_3, four}
+use Rattle.lanes.specs.Word.{WordByWord}
+use Rattle.lanes.proofs.LaneWords.{word_at, lane_by_words}
 
 -- bit i of a word
 abbrev pub word_bit : ℕ → ℕ → Bool
@@ -49,13 +49,9 @@ lane_bits q b e l g = word_ext 64 b _ _ (λ i lo hi.
     let r : q ≡ i / 64 = omega arith in
     rw (p, r))
 
-module _ (l m : Lane) (g : ℕ → Bool) (e : m ≡ lane_of g) where
-  pub lane_masked : ◌≡◌ {A = Lane} (record { words = bit_and (get_or l.words 0 0) (get_or m.words 0 0) ∷ bit_and (get_or l.words 1 0) (get_or m.words 1 0) ∷ bit_and (get_or l.words 2 0) (get_or m.words 2 0) ∷ bit_and (get_or l.words 3 0) (get_or m.words 3 0) ∷ [] }) (lane_of (λ i. bit_at l i && g i))
-  lane_masked = four _ _ _ _ _
-      (ap (bit_and (get_or l.words 0 0)) (word_at_0 m g e) ∙ word_masked 64 0 (get_or l.words 0 0) g ∙ lane_bits 0 0 (omega arith) l g)
-      (ap (bit_and (get_or l.words 1 0)) (word_at_1 m g e) ∙ word_masked 64 64 (get_or l.words 1 0) g ∙ lane_bits 1 64 (omega arith) l g)
-      (ap (bit_and (get_or l.words 2 0)) (word_at_2 m g e) ∙ word_masked 64 128 (get_or l.words 2 0) g ∙ lane_bits 2 128 (omega arith) l g)
-      (ap (bit_and (get_or l.words 3 0)) (word_at_3 m g e) ∙ word_masked 64 192 (get_or l.words 3 0) g ∙ lane_bits 3 192 (omega arith) l g)
+pub lane_masked : (l m r : Lane) → WordByWord (λ x y z. z ≡ bit_and x y) l m r → (g : ℕ → Bool) → m ≡ lane_of g → r ≡ lane_of (λ i. bit_at l i && g i)
+lane_masked l m r w g e = lane_by_words r (λ i. bit_at l i && g i) w.0 (λ i h.
+    w.1 i h ∙ ap (bit_and (get_or l.words i 0)) (word_at m g e i h) ∙ word_masked 64 (i * 64) (get_or l.words i 0) g ∙ lane_bits i (i * 64) refl l g)
 
 -- where the lane is known, so are its bits
 pub known_masked : (l : Lane) (f g : ℕ → Bool) → l ≡ lane_of f → lane_of (λ i. bit_at l i && g i) ≡ lane_of (λ i. f i && g i)

@@ -138,3 +138,10 @@ pub word_every : (n b : ℕ) → word_from n b (λ i. true) + 1 ≡ 2 ^ n
 unfolding word_from
 word_every zero b = rw (pow-zero 2)
 word_every (suc n) b = omega (arith, word_every n (suc b), pow-suc 2 n)
+
+-- the other bits of a word
+word_not : (b : ℕ) (g : ℕ → Bool) → 2 ^ 64 - 1 - word_from 64 b g ≡ word_from 64 b (λ i. not (g i))
+word_not b g = omega (arith, word_parts 64 b (λ i. true) g, word_every 64 b)
+
+pub word_and_not : (b : ℕ) (f g : ℕ → Bool) → bit_and (word_from 64 b f) (2 ^ 64 - 1 - word_from 64 b g) ≡ word_from 64 b (λ i. f i && not (g i))
+word_and_not b f g = rw (word_not b g) (word_and 64 b f (λ i. not (g i)))

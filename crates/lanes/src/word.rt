@@ -6,6 +6,9 @@ ghost use Rattle.tables.specs.Bit.{word_from};
 ghost use Rattle.meaning.specs.Approximant.{approximant};
 ghost use Rattle.lanes.specs.Word.{Ends};
 
+// A word's last cycle alone.
+const LAST: u64 = 1 << 63;
+
 // For each cycle: `keep` holds for some number of cycles from there on, `goal` is met within that number with keep before it.
 #[derive(Clone, Copy)]
 pub struct Stretch {
@@ -30,14 +33,11 @@ fn carry_back(keep: u64, goal: u64) -> u64
     ensures word { (b : ℕ) (k g : ℕ → Bool) → Ends (b + 64) k → Ends (b + 64) g → keep ≡ word_from 64 b k → goal ≡ word_from 64 b g
         → result ≡ word_from 64 b (approximant k g false 64) }
 {
-    let one = Stretch { keep, goal };
-    let two = twice(one, 1);
-    let four = twice(two, 2);
-    let eight = twice(four, 4);
-    let sixteen = twice(eight, 8);
-    let half = twice(sixteen, 16);
-    let whole = twice(half, 32);
-    whole.goal
+    let mut stretch = Stretch { keep, goal };
+    for k in 0..6u32 {
+        stretch = twice(stretch, 1 << k);
+    }
+    stretch.goal
 }
 
 // The same over several words: `later` is the word behind this one, whose first bit says what holds there.
@@ -46,9 +46,10 @@ pub fn carry_from(keep: u64, goal: u64, later: u64) -> u64
         → result ≡ word_from 64 b (λ i. approximant k g x (b + 64 - i) i) }
 {
     if later % 2 == 1 {
-        return carry_back(keep, goal | (keep & 0x8000_0000_0000_0000));
+        carry_back(keep, goal | (keep & LAST))
+    } else {
+        carry_back(keep, goal)
     }
-    carry_back(keep, goal)
 }
 
 // What holds one cycle later; the later word's first bit comes in at the top.
@@ -57,7 +58,8 @@ pub fn next_from(word: u64, later: u64) -> u64
         → result ≡ word_from 64 b (λ i. f (suc i)) }
 {
     if later % 2 == 1 {
-        return word / 2 + 0x8000_0000_0000_0000;
+        word / 2 + LAST
+    } else {
+        word / 2
     }
-    word / 2
 }

@@ -1,21 +1,12 @@
-use Prim.Native.Nat.{◌-◌}
+use borrow.Author.Rules.{rules}
+use Prim.Native.Nat.{◌-◌, ◌^◌}
 use mathlib.Core.Bool.{not, ◌&&◌}
-use lib.Bits.{bit_and, and_le_l}
-use Rattle.lanes.proofs.Words.{word_without}
+use lib.Bits.{bit_and}
+use Rattle.lanes.proofs.Words.{word_and_not}
 use Rattle.lanes.proofs.LaneWords.{lane_pointwise}
 use Rattle.lanes.proofs.lane.without.Goals as goal
 
-pub overflow_sub-result : goal.overflow_sub-result
-overflow_sub-result c = and_le_l _ _
-
-pub overflow_sub-result-2 : goal.overflow_sub-result-2
-overflow_sub-result-2 c = and_le_l _ _
-
-pub overflow_sub-result-3 : goal.overflow_sub-result-3
-overflow_sub-result-3 c = and_le_l _ _
-
-pub overflow_sub-result-4 : goal.overflow_sub-result-4
-overflow_sub-result-4 c = and_le_l _ _
-
 pub returns : goal.returns
-returns c = record { lane = lane_pointwise (λ x y. x - bit_and x y) (λ x y. x && not y) word_without c.args.a c.args.b }
+returns c = record {
+  lane = lane_pointwise (λ x y. bit_and x (2 ^ 64 - 1 - y)) (λ x y. x && not y) word_and_not c.args.a c.args.b c.word_by_word.result (c.word_by_word.ensures.words.0, λ i h. search (rules, c.word_by_word.ensures.words.1));
+}

@@ -1,13 +1,21 @@
-use Rattle.lanes.proofs.Stretches.{of_one, of_twice}
+use Rattle.std.proofs.Common.{arith, ◌≡◌, ◌*◌, ◌%◌, ◌^◌, ◌<◌}
+use Rattle.std.proofs.lemmas.Nat.{pow_below}
+use Rattle.lanes.proofs.Stretches.{of_one, of_doubled}
 use Rattle.lanes.proofs.word.carry_back.Goals as goal
 
+shifted : (k : _) → k < 6 → 1 * 2 ^ k % 4294967296 ≡ 2 ^ k
+shifted k h = let p : 2 ^ k < 2 ^ 6 = pow_below k 6 h in omega arith
+
+pub twice-stretch-requires : goal.twice-stretch-requires
+twice-stretch-requires c = let p : 2 ^ c.loop-k.k < 2 ^ 6 = pow_below c.loop-k.k 6 c.loop-k-test.true in omega arith
+
+pub loop-k-init : goal.loop-k-init
+loop-k-init c = λ b k g ke ge p q. of_one b k g ke ge _ p q
+
+pub loop-k-preserved : goal.loop-k-preserved
+loop-k-preserved c = λ b k g ke ge p q.
+    let s = shifted c.loop-k.k c.loop-k-test.true in
+    of_doubled b k g ke ge c.loop-k.k _ _ (c.loop-k.invariant b k g ke ge p q) (rw s at c.twice-stretch.ensures.answer.0) (rw s at c.twice-stretch.ensures.answer.1)
+
 pub returns : goal.returns
-returns c = record {
-  word = λ b k g ke ge p q.
-      let two = of_twice b k g ke ge 0 _ _ (of_one b k g ke ge _ p q) c.twice-two.ensures.answer.0 c.twice-two.ensures.answer.1 in
-      let four = of_twice b k g ke ge 1 _ _ two c.twice-four.ensures.answer.0 c.twice-four.ensures.answer.1 in
-      let eight = of_twice b k g ke ge 3 _ _ four c.twice-eight.ensures.answer.0 c.twice-eight.ensures.answer.1 in
-      let sixteen = of_twice b k g ke ge 7 _ _ eight c.twice-sixteen.ensures.answer.0 c.twice-sixteen.ensures.answer.1 in
-      let half = of_twice b k g ke ge 15 _ _ sixteen c.twice-half.ensures.answer.0 c.twice-half.ensures.answer.1 in
-      (of_twice b k g ke ge 31 _ _ half c.twice-whole.ensures.answer.0 c.twice-whole.ensures.answer.1).goals;
-}
+returns c = record { word = λ b k g ke ge p q. let six : c.loop-k.k ≡ 6 = omega arith in (rw six at (c.loop-k.invariant b k g ke ge p q)).goals }

@@ -4,5 +4,5 @@ use Rattle.lanes.proofs.word.next_from.Goals as goal
 pub returns-then-later-eq1 : goal.returns-then-later-eq1
 returns-then-later-eq1 c = record { word = λ b f w e. next_on b f _ _ w e c.if-later-eq1.true }
 
-pub returns : goal.returns
-returns c = record { word = λ b f w e. next_off b f _ _ w e c.if-later-eq1.false }
+pub returns-else-later-eq1 : goal.returns-else-later-eq1
+returns-else-later-eq1 c = record { word = λ b f w e. next_off b f _ _ w e c.if-later-eq1.false }
