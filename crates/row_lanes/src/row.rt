@@ -6,6 +6,7 @@ ghost use Rattle.meaning.specs.Pattern.{binary_pattern, constant_bit, signal_sig
 ghost use Rattle.lanes.specs.Truth.{Shows};
 ghost use Rattle.row_lanes.specs.Pass.{CyclesOf, pass_bit};
 
+use lanes::lane;
 use tables::row::{BinaryKind, ConstantKind, SignalKind, UnaryKind};
 use tables::trace::Lane;
 
@@ -14,7 +15,7 @@ pub fn constant(kind: ConstantKind, all: Lane) -> Lane
 {
     match kind {
         ConstantKind::True => all,
-        ConstantKind::False => lanes::lane::none(),
+        ConstantKind::False => lane::none(),
     }
 }
 
@@ -22,10 +23,10 @@ pub fn constant(kind: ConstantKind, all: Lane) -> Lane
 pub fn signal(kind: SignalKind, lane: Lane, all: Lane) -> Lane
     ensures shows { (n : ℕ) → CyclesOf n all → Shows n result (λ i. signed_bit (signal_sign kind) (bit_at lane i)) }
 {
-    let on = lanes::lane::both(lane, all);
+    let on = lane::both(lane, all);
     match kind {
         SignalKind::Sig => on,
-        SignalKind::Nsig => lanes::lane::without(all, on),
+        SignalKind::Nsig => lane::without(all, on),
     }
 }
 
@@ -35,10 +36,10 @@ pub fn unary(kind: UnaryKind, a: Lane, all: Lane) -> Lane
         → Shows n result (pass_bit n (λ i. unary_left kind) (λ i. signed_bit (positive kind) (q i)) (unary_pattern kind)) }
 {
     match kind {
-        UnaryKind::Not => lanes::lane::without(all, a),
-        UnaryKind::Next => lanes::lane::next(a),
-        UnaryKind::Always => lanes::lane::carry(a, lanes::lane::none()),
-        UnaryKind::Ever => lanes::lane::carry(all, a),
+        UnaryKind::Not => lane::without(all, a),
+        UnaryKind::Next => lane::next(a),
+        UnaryKind::Always => lane::carry(a, lane::none()),
+        UnaryKind::Ever => lane::carry(all, a),
     }
 }
 
@@ -49,11 +50,11 @@ pub fn binary(kind: BinaryKind, a: Lane, b: Lane) -> Lane
         → Shows n result (pass_bit n p q (binary_pattern kind)) }
 {
     match kind {
-        BinaryKind::And => lanes::lane::both(a, b),
-        BinaryKind::Or => lanes::lane::either(a, b),
-        BinaryKind::Weak => lanes::lane::carry(a, b),
-        BinaryKind::Until => lanes::lane::carry(a, b),
-        BinaryKind::Release => lanes::lane::carry(b, lanes::lane::both(a, b)),
-        BinaryKind::Srelease => lanes::lane::carry(b, lanes::lane::both(a, b)),
+        BinaryKind::And => lane::both(a, b),
+        BinaryKind::Or => lane::either(a, b),
+        BinaryKind::Weak => lane::carry(a, b),
+        BinaryKind::Until => lane::carry(a, b),
+        BinaryKind::Release => lane::carry(b, lane::both(a, b)),
+        BinaryKind::Srelease => lane::carry(b, lane::both(a, b)),
     }
 }

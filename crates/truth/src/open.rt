@@ -19,10 +19,8 @@ pub fn fill_open(form: NormalForm, trace: Trace) -> [Lane; 128]
     let signals = trace.lanes;
     let count = form.rows as usize;
     let mut rows = [Lane { words: [0; 4] }; 128];
-    let mut k = 0;
-    while k < count {
-        let place = form.places[k];
-        let row = place.row;
+    for k in 0..count {
+        let row = form.places[k].row;
         rows[k] = match row {
             Row::Constant(kind) => row::constant(kind, all),
             Row::Signal(kind, s) => row::signal(kind, signals[s as usize - 1], all),
@@ -33,7 +31,6 @@ pub fn fill_open(form: NormalForm, trace: Trace) -> [Lane; 128]
                 rows[b as usize - 1],
             ),
         };
-        k += 1;
     }
     rows
 }

@@ -1,4 +1,4 @@
-use Prim.Native.Nat.{suc, ◌-◌, ◌≤◌}
+use Prim.Native.Nat.{suc, ◌≤◌}
 use mathlib.Core.Path.{refl, subst}
 use native.Mathlib.Omega.{arith}
 use Rattle.meaning.specs.Satisfaction.{table_of}
@@ -9,17 +9,8 @@ use borrow.Author.Rules.{rules}
 use Rattle.truth.proofs.open.fill_open.Goals as goal
 use Rattle.truth.proofs.open.fill_open.Goals.{in-Constant, in-Signal, in-Unary, in-Binary}
 
-pub all-all-requires : goal.all-all-requires
-all-all-requires c = (c.requires.1.some_cycles, c.requires.1.most_cycles)
-
 pub loop-k-init : goal.loop-k-init
 loop-k-init c = λ n most all. fill_none n _ _ _ _ refl
-
-pub offset_bounds-form-k : goal.offset_bounds-form-k
-offset_bounds-form-k c = omega (arith, c.requires.0.most_rows)
-
-pub bounds-form-k : goal.bounds-form-k
-bounds-form-k c = omega (arith, c.requires.0.most_rows)
 
 pub overflow_sub-s : goal.overflow_sub-s
 overflow_sub-s c = (subst (EachSignal (λ s. (1 ≤ s) × (s ≤ 32))) c.in-Signal.is (row_signals c.args.form c.requires.0 c.loop-k.k (search rules))).0
@@ -44,15 +35,6 @@ overflow_sub-b c = (subst (Each (λ a. (1 ≤ a) × (a ≤ 128))) c.in-Binary.is
 
 pub bounds-rows-b : goal.bounds-rows-b
 bounds-rows-b c = let e = (subst (Each (λ a. (1 ≤ a) × (a ≤ 128))) c.in-Binary.is (row_operands c.args.form c.requires.0 c.loop-k.k (search rules))).1 in omega (arith, e.0, e.1)
-
-pub offset_bounds-rows-k : goal.offset_bounds-rows-k
-offset_bounds-rows-k c = omega (arith, c.requires.0.most_rows)
-
-pub bounds-rows-k : goal.bounds-rows-k
-bounds-rows-k c = omega (arith, c.requires.0.most_rows)
-
-pub overflow_add-k : goal.overflow_add-k
-overflow_add-k c = omega (arith, c.requires.0.most_rows)
 
 pub loop-k-preserved : goal.loop-k-preserved
 loop-k-preserved c = λ n most all.

@@ -1,4 +1,4 @@
-use Prim.Native.Nat.{ℕ, suc, ◌-◌, ◌≤◌}
+use Prim.Native.Nat.{ℕ, suc, ◌≤◌}
 use Rattle.meaning.specs.Satisfaction.{table_of}
 use Rattle.lanes.specs.Truth.{bit_in}
 use Rattle.row_lanes.specs.Pass.{CyclesOf}
@@ -7,6 +7,3 @@ use Rattle.truth.proofs.open.fill_open.Given as goal
 
 abbrev pub invariant-loop-k : goal.invariant-loop-k
 invariant-loop-k l = (n : ℕ) → n ≤ 256 → CyclesOf n l.all → FilledTo n (bit_in l.signals) (table_of l.form.places) (suc l.form.rows) l.k l.rows
-
-abbrev pub decreases-loop-k : goal.decreases-loop-k
-decreases-loop-k l = l.count - l.k
