@@ -156,6 +156,17 @@ row_below f ok k p q = range_below f.signals k (row_of f k) (row_in_range f ok k
 pub below_more : {n m : ℕ} (r : Row) → n ≤ m → Below n r → Below m r
 below_more r h b x o = let w = b x o in (w.0, omega (arith, w.1))
 
+-- so do the operands that a pattern binds
+pub unary_below : {n : ℕ} {r : Row} {c : UnaryKind} {a : ℕ} → Below n r → r ≡ Unary c a → (1 ≤ a) × (a < n)
+unary_below {n} {a = a} below e = (rw e at below) a refl
+
+pub binary_below : {n : ℕ} {r : Row} {c : BinaryKind} {a b : ℕ} → Below n r → r ≡ Binary c a b → (1 ≤ a) × (a < n) × (1 ≤ b) × (b < n)
+binary_below {n} {a = a} {b} below e =
+    let all = rw e at below in
+    let first = all a (inl refl) in
+    let second = all b (inr refl) in
+    (first.0, first.1, second.0, second.1)
+
 -- the row of a slot
 pub slot_row_below : (f : Formula) → InRange f → (j : ℕ) → j < 2 * f.rows → Below (j / 2 + 1) (row_in f.places (j / 2))
 slot_row_below f ok j h = let e : j / 2 + 1 - 1 ≡ j / 2 = omega arith in rw e at (row_below f ok (j / 2 + 1) (omega arith) (omega arith))

@@ -1,15 +1,21 @@
 // The rows of the normal form, listed in one pass over the slots.
-ghost use Rattle.std.specs.Prelude.{◌≡◌, true, ◌*◌};
-ghost use Rattle.tables.specs.Kind.{first_number};
+ghost use Rattle.std.specs.Prelude.{◌≡◌, ◌≤◌, ◌*◌};
 ghost use Rattle.rule_file.specs.Valid.{InRange};
-ghost use Rattle.normal_form.specs.Operand.{Below, is_not};
-ghost use Rattle.normal_form.specs.Sign.{signed, turned};
+ghost use Rattle.normal_form.specs.Operand.{Below};
 ghost use Rattle.normal_form.specs.Numbering.{listed_form, listing, number_in, renumbered};
 
 use crate::sign::Sign;
 use crate::{row, sign};
-use tables::kind;
-use tables::row::{ConstantKind, Formula, NormalForm, Row, RowPlace};
+use tables::row::{ConstantKind, Formula, NormalForm, Row, RowPlace, UnaryKind};
+
+// The number of the row that stands for row `a` under the sign.
+fn number_in(numbers: &[u8; 128], a: u8, sign: Sign) -> u8
+    requires some { 1 ≤ a }
+    requires most { a ≤ 64 }
+    ensures answer { result ≡ number_in numbers.now a sign }
+{
+    numbers[sign::slot(a, sign)]
+}
 
 // A row with its operands' new numbers, each taken under the sign.
 fn renumber(numbers: &[u8; 128], row: Row, sign: Sign) -> Row
@@ -17,44 +23,18 @@ fn renumber(numbers: &[u8; 128], row: Row, sign: Sign) -> Row
     ensures answer { result ≡ renumbered numbers.now sign row }
 {
     match row {
-        Row::Constant(kind) => Row::Constant(kind),
-        Row::Signal(kind, s) => Row::Signal(kind, s),
-        Row::Unary(kind, a) => {
-            let i = sign::slot(a, sign);
-            let x = numbers[i];
-            Row::Unary(kind, x)
-        }
-        Row::Binary(kind, a, b) => {
-            let i = sign::slot(a, sign);
-            let j = sign::slot(b, sign);
-            let x = numbers[i];
-            let y = numbers[j];
-            Row::Binary(kind, x, y)
-        }
+        Row::Constant(_) | Row::Signal(_, _) => row,
+        Row::Unary(kind, a) => Row::Unary(kind, number_in(numbers, a, sign)),
+        Row::Binary(kind, a, b) => Row::Binary(
+            kind,
+            number_in(numbers, a, sign),
+            number_in(numbers, b, sign),
+        ),
     }
 }
 
-// The number of the row that stands for a `not` row: that of its operand with the sign turned.
-fn shared_number(numbers: &[u8; 128], row: Row, sign: Sign) -> u8
-    requires { Below 65 row × (is_not row ≡ true) }
-    ensures answer { result ≡ number_in numbers.now (first_number row) (turned sign) }
-{
-    let other = sign::turned(sign);
-    let i = sign::slot(kind::first_number(row), other);
-    numbers[i]
-}
-
-// The row that stands for any other row: itself or its dual, with its operands' numbers.
-fn own_row(numbers: &[u8; 128], row: Row, sign: Sign) -> Row
-    requires { Below 65 row }
-    ensures answer { result ≡ renumbered numbers.now sign (signed sign row) }
-{
-    let taken = row::signed_row(row, sign);
-    renumber(numbers, taken, sign)
-}
-
-// The rows of the slots that are marked. For each slot that is done, `numbers` has the number of the row that stands for it (0: none);
-// a `not` row gets no row.
+// The rows of the slots that are marked. For each slot that is done, `numbers` has the number of the row that stands for it (0: none):
+// for a `not` row that of its operand with the sign turned; any other row, or its dual, is the next row.
 pub fn number_rows(formula: Formula, marks: [bool; 128]) -> NormalForm
     requires { InRange formula }
     ensures answer { result ≡ listed_form formula.signals (listing marks formula.places (2 * formula.rows)) }
@@ -63,22 +43,16 @@ pub fn number_rows(formula: Formula, marks: [bool; 128]) -> NormalForm
     let mut places = [RowPlace { row: unused }; 128];
     let mut numbers = [0u8; 128];
     let mut rows = 0u8;
-    let end = 2 * (formula.rows as usize);
-    let mut next = 0;
-    while next < end {
-        let j = next;
-        next += 1;
+    for j in 0..2 * formula.rows as usize {
         if marks[j] {
-            let place = formula.places[j / 2];
-            let row = place.row;
-            let under = sign::sign_of(j);
-            if row::is_not(row) {
-                let number = shared_number(&numbers, row, under);
-                numbers[j] = number;
+            let row = formula.places[j / 2].row;
+            let sign = sign::sign_of(j);
+            if let Row::Unary(UnaryKind::Not, a) = row {
+                numbers[j] = number_in(&numbers, a, sign::turned(sign));
             } else {
-                let own = own_row(&numbers, row, under);
-                let n = rows as usize;
-                places[n] = RowPlace { row: own };
+                places[rows as usize] = RowPlace {
+                    row: renumber(&numbers, row::signed_row(row, sign), sign),
+                };
                 rows += 1;
                 numbers[j] = rows;
             }

@@ -15,17 +15,11 @@ fn mark_operands(marks: &mut [bool; 128], row: Row, sign: Sign)
 {
     let under = row::operand_sign(row, sign);
     match row {
-        Row::Constant(_) => {}
-        Row::Signal(_, _) => {}
-        Row::Unary(_, a) => {
-            let i = sign::slot(a, under);
-            marks[i] = true;
-        }
+        Row::Constant(_) | Row::Signal(_, _) => {}
+        Row::Unary(_, a) => marks[sign::slot(a, under)] = true,
         Row::Binary(_, a, b) => {
-            let i = sign::slot(a, under);
-            let j = sign::slot(b, under);
-            marks[i] = true;
-            marks[j] = true;
+            marks[sign::slot(a, under)] = true;
+            marks[sign::slot(b, under)] = true;
         }
     }
 }
@@ -36,16 +30,10 @@ pub fn reach(formula: Formula, sign: Sign) -> [bool; 128]
     ensures answer { result ≡ reachOf formula sign }
 {
     let mut marks = [false; 128];
-    let root = sign::slot(formula.rows, sign);
-    marks[root] = true;
-    let mut j = 2 * (formula.rows as usize);
-    while j > 0 {
-        j -= 1;
+    marks[sign::slot(formula.rows, sign)] = true;
+    for j in (0..2 * formula.rows as usize).rev() {
         if marks[j] {
-            let place = formula.places[j / 2];
-            let row = place.row;
-            let under = sign::sign_of(j);
-            mark_operands(&mut marks, row, under);
+            mark_operands(&mut marks, formula.places[j / 2].row, sign::sign_of(j));
         }
     }
     marks

@@ -3,24 +3,14 @@ ghost use Rattle.std.specs.Prelude.{◌≡◌};
 ghost use Rattle.normal_form.specs.Operand.{is_not};
 ghost use Rattle.normal_form.specs.Sign.{operand_sign, signed};
 
-use crate::sign::Sign;
+use crate::sign::{self, Sign};
 use tables::kind;
 use tables::row::{Row, UnaryKind};
 
 pub fn is_not(row: Row) -> bool
     ensures answer { result ≡ is_not row }
 {
-    match row {
-        Row::Constant(_) => false,
-        Row::Signal(_, _) => false,
-        Row::Unary(kind, _) => match kind {
-            UnaryKind::Not => true,
-            UnaryKind::Next => false,
-            UnaryKind::Always => false,
-            UnaryKind::Ever => false,
-        },
-        Row::Binary(_, _, _) => false,
-    }
+    matches!(row, Row::Unary(UnaryKind::Not, _))
 }
 
 // The sign under which a row takes its operands: `not` turns it.
@@ -28,9 +18,10 @@ pub fn operand_sign(row: Row, sign: Sign) -> Sign
     ensures answer { result ≡ operand_sign row sign }
 {
     if is_not(row) {
-        return crate::sign::turned(sign);
+        sign::turned(sign)
+    } else {
+        sign
     }
-    sign
 }
 
 // The row itself, or its dual.

@@ -9,6 +9,7 @@ pub enum Sign {
     Negated,
 }
 
+// Stays: (d) `impl Not` with its ghost member is longer than this, and `turned` is the word of the definitions.
 pub fn turned(sign: Sign) -> Sign
     ensures answer { result ≡ turnedOf sign }
 {
@@ -19,6 +20,7 @@ pub fn turned(sign: Sign) -> Sign
 }
 
 // Each row has two slots, in the normal form's order: rising by the row's number, plain before negated.
+// Stays: (a) the definitions `reach` and `listing` under the theorem `normal` number the slots so.
 pub fn slot(number: u8, sign: Sign) -> usize
     requires { 1 ≤ number }
     ensures answer { (result ≡ slot_of number sign) × (result < 2 * number) }
@@ -35,7 +37,8 @@ pub fn sign_of(slot: usize) -> Sign
     ensures answer { result ≡ sign_of slot }
 {
     if slot % 2 == 0 {
-        return Sign::Plain;
+        Sign::Plain
+    } else {
+        Sign::Negated
     }
-    Sign::Negated
 }

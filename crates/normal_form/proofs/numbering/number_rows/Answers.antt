@@ -1,70 +1,54 @@
-use mathlib.Core.Path.{sym, refl, ◌∙◌}
-use Prim.Native.Nat.{◌-◌}
+use mathlib.Core.Path.{refl}
 use native.Mathlib.Omega.{arith}
-use Rattle.normal_form.proofs.Operands.{slot_row_fits}
+use mathlib.Core.Path.{◌≡◌}
+use mathlib.Core.Bool.{true, false}
+use Prim.Native.Nat.{◌/◌}
+use borrow.Author.Rules.{rules}
+use Rattle.tables.specs.Kind.{first_number}
+use Rattle.tables.specs.declared.row.Row.{Row}
+use Rattle.normal_form.specs.Operand.{row_in, is_not}
+use Rattle.normal_form.specs.Sign.{turned}
+use Rattle.normal_form.specs.Numbering.{number_in}
+use Rattle.normal_form.proofs.Operands.{slot_row_fits, unary_below, alike_signed, alike_operand}
 use Rattle.normal_form.proofs.NumberLoop.{list_start, list_room, list_free, list_shared, list_own, list_end}
 use Rattle.normal_form.proofs.numbering.number_rows.Goals as goal
+use Rattle.normal_form.proofs.numbering.number_rows.Goals.{then-marks-j+in-Unary-Not-default, then-marks-j+in_default, in_default-via-in-Unary+in_default, in_default-via-in_default, else-marks-j}
 
-pub overflow_cast-end : goal.overflow_cast-end
-overflow_cast-end c = omega (arith, c.requires.most_rows)
+pub loop-j-init : goal.loop-j-init
+loop-j-init c = list_start _ _ _
 
-pub overflow_mul-end : goal.overflow_mul-end
-overflow_mul-end c = omega (arith, c.requires.most_rows)
+pub number_in-requires : goal.number_in-requires
+number_in-requires c =
+    let b = unary_below (slot_row_fits c.args.formula c.requires c.loop-j.j (omega arith)) c.in-Unary-Not-default.is in
+    record { some = b.0; most = omega (arith, b.1) }
 
-pub loop-next-init : goal.loop-next-init
-loop-next-init c = list_start _ _ _
+pub renumber-requires : goal.renumber-requires
+renumber-requires c = λ x o.
+    let row = row_in c.args.formula.places (c.loop-j.j / 2) in
+    slot_row_fits c.args.formula c.requires c.loop-j.j (omega arith) x
+    (alike_operand (alike_signed c.sign_of-sign.result row) x (rw c.signed_row.ensures.answer at o))
 
-pub overflow_add-next : goal.overflow_add-next
-overflow_add-next c = omega (arith, c.requires.most_rows)
-
-pub bounds-marks-j : goal.bounds-marks-j
-bounds-marks-j c = omega (arith, c.requires.most_rows)
-
-pub bounds-formula-j : goal.bounds-formula-j
-bounds-formula-j c = omega (arith, c.requires.most_rows)
-
-pub shared_number-number-requires : goal.shared_number-number-requires
-shared_number-number-requires c =
-    (slot_row_fits c.args.formula (c.requires) c.loop-next.next (omega arith), sym c.is_not.ensures.answer ∙ c.if-is_not.true)
-
-pub bounds-numbers-j : goal.bounds-numbers-j
-bounds-numbers-j c = omega (arith, c.requires.most_rows)
-
-pub loop-next-preserved-then-is_not : goal.loop-next-preserved-then-is_not
-loop-next-preserved-then-is_not c =
-    list_shared c.loop-next.invariant (omega arith) (omega (arith, c.requires.most_rows)) c.if-marks-j.true refl c.sign_of-under.ensures.answer (slot_row_fits c.args.formula (c.requires)
-    c.loop-next.next (omega arith)) (sym c.is_not.ensures.answer ∙ c.if-is_not.true) c.shared_number-number.ensures.answer
-
-pub own_row-own-requires : goal.own_row-own-requires
-own_row-own-requires c =
-    slot_row_fits c.args.formula (c.requires) c.loop-next.next (omega arith)
-
-pub overflow_cast-n : goal.overflow_cast-n
-overflow_cast-n c =
-    omega (arith, list_room c.loop-next.invariant, c.requires.most_rows)
-
-pub offset_bounds-places-n : goal.offset_bounds-places-n
-offset_bounds-places-n c =
-    omega (arith, list_room c.loop-next.invariant, c.requires.most_rows)
-
-pub bounds-places-n : goal.bounds-places-n
-bounds-places-n c =
-    omega (arith, list_room c.loop-next.invariant, c.requires.most_rows)
+pub bounds-places-rows : goal.bounds-places-rows
+bounds-places-rows c = omega (arith, list_room c.loop-j.invariant, c.requires.most_rows)
 
 pub overflow_add-rows : goal.overflow_add-rows
-overflow_add-rows c =
-    omega (arith, list_room c.loop-next.invariant, c.requires.most_rows)
+overflow_add-rows c = omega (arith, list_room c.loop-j.invariant, c.requires.most_rows)
 
-pub bounds-numbers-j-else-is_not : goal.bounds-numbers-j-else-is_not
-bounds-numbers-j-else-is_not c = omega (arith, c.requires.most_rows)
-
-pub loop-next-preserved-else-is_not : goal.loop-next-preserved-else-is_not
-loop-next-preserved-else-is_not c =
-    list_own c.loop-next.invariant (omega arith) (omega (arith, c.requires.most_rows)) c.if-marks-j.true refl c.sign_of-under.ensures.answer (slot_row_fits c.args.formula (c.requires)
-    c.loop-next.next (omega arith)) (sym c.is_not.ensures.answer ∙ c.if-is_not.false) c.own_row-own.ensures.answer
-
-pub loop-next-preserved : goal.loop-next-preserved
-loop-next-preserved c = list_free c.loop-next.invariant (omega arith) (omega (arith, c.requires.most_rows)) c.if-marks-j.false
+pub loop-j-preserved : goal.loop-j-preserved
+loop-j-preserved c =
+    let few = c.requires.most_rows in
+    let below = slot_row_fits c.args.formula c.requires c.loop-j.j (omega arith) in
+    let row : Row = row_in c.args.formula.places (c.loop-j.j / 2) in
+    elim c.if-marks-j.branch [
+      | then-marks-j+in-Unary-Not-default w ↦
+          let z : is_not row ≡ true = search rules in
+          let e : w.number_in.result ≡ number_in c.loop-j.numbers (first_number row) (turned w.sign_of-sign.result) = rw (w.in-Unary-Not-default.is, w.number_in.ensures.answer, w.turned.ensures.answer) in
+          rw (w.places-is, w.numbers-is, w.rows-is) (list_shared c.loop-j.invariant (omega arith) (omega arith) w.if-marks-j.true refl w.sign_of-sign.ensures.answer below z e)
+      | then-marks-j+in_default w ↦
+          let z : is_not row ≡ false = elim w.in_default.branch [ in_default-via-in-Unary+in_default x ↦ search rules | in_default-via-in_default x ↦ search rules ] in
+          rw (w.places-is, w.numbers-is, w.rows-is) (list_own c.loop-j.invariant (omega arith) (omega arith) w.if-marks-j.true refl w.sign_of-sign.ensures.answer below z (rw w.signed_row.ensures.answer at w.renumber.ensures.answer))
+      | else-marks-j w ↦ rw (w.places-is, w.numbers-is, w.rows-is) (list_free c.loop-j.invariant (omega arith) (omega arith) w.if-marks-j.false)
+    ]
 
 pub returns : goal.returns
-returns c = record { answer = list_end c.loop-next.invariant c.args.formula.signals (omega arith) }
+returns c = record { answer = list_end c.loop-j.invariant c.args.formula.signals (omega arith) }

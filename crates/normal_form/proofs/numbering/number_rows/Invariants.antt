@@ -1,9 +1,6 @@
-use Prim.Native.Nat.{◌-◌}
+use Prim.Native.Nat.{◌*◌}
 use Rattle.normal_form.proofs.NumberLoop.{ListedAt}
 use Rattle.normal_form.proofs.numbering.number_rows.Given as goal
 
-abbrev pub invariant-loop-next : goal.invariant-loop-next
-invariant-loop-next l = ListedAt l.marks l.formula.places l.end l.next l.places l.numbers l.rows
-
-abbrev pub decreases-loop-next : goal.decreases-loop-next
-decreases-loop-next l = l.end - l.next
+abbrev pub invariant-loop-j : goal.invariant-loop-j
+invariant-loop-j l = ListedAt l.marks l.formula.places (2 * l.formula.rows) l.j l.places l.numbers l.rows
