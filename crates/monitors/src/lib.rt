@@ -2,7 +2,8 @@
 #![tactic(auto)]
 
 ghost use Rattle.std.specs.Prelude.{◌≡◌};
-ghost use Rattle.monitors.specs.Monitor.{awaits as awaitsOf, binary_monitor, checks as checksOf, constant_monitor, row_monitor, signal_monitor, unary_monitor, waits as waitsOf};
+ghost use Rattle.monitors.specs.Monitor.{awaits, checks, goes, waits};
+ghost use Rattle.monitors.specs.Monitor.{binary_monitor, constant_monitor, row_monitor, signal_monitor, unary_monitor};
 
 use tables::row::{BinaryKind, ConstantKind, Row, SignalKind, UnaryKind};
 
@@ -21,34 +22,38 @@ pub struct RowState {
     pub pending: bool,
 }
 
-// What is not named is: pending 0, failed 0, accept 1.
-fn checks(failed: bool) -> Output
-    ensures answer { result ≡ checksOf failed }
-{
-    Output {
-        failed,
-        accept: true,
-        pending: false,
+impl RowState {
+    // Whether the row is active, or was pending one cycle earlier.
+    fn goes(self) -> bool
+        ensures answer { result ≡ goes self }
+    {
+        self.active | self.pending
     }
 }
 
+// What is not named is: pending 0, failed 0, accept 1.
 fn waits(pending: bool, failed: bool) -> Output
-    ensures answer { result ≡ waitsOf pending failed }
+    ensures answer { result ≡ waits pending failed }
 {
     Output {
         failed,
         accept: true,
         pending,
     }
+}
+
+fn checks(failed: bool) -> Output
+    ensures answer { result ≡ checks failed }
+{
+    waits(false, failed)
 }
 
 fn awaits(pending: bool, failed: bool) -> Output
-    ensures answer { result ≡ awaitsOf pending failed }
+    ensures answer { result ≡ awaits pending failed }
 {
     Output {
-        failed,
         accept: !pending,
-        pending,
+        ..waits(pending, failed)
     }
 }
 
@@ -73,7 +78,7 @@ pub fn signal(kind: SignalKind, on: bool, state: RowState) -> Output
 pub fn unary(kind: UnaryKind, a: bool, state: RowState) -> Output
     ensures answer { result ≡ unary_monitor kind a state }
 {
-    let goes = state.active | state.pending;
+    let goes = state.goes();
     match kind {
         UnaryKind::Not => checks(false),
         UnaryKind::Next => waits(state.active, state.pending & !a),
@@ -85,7 +90,7 @@ pub fn unary(kind: UnaryKind, a: bool, state: RowState) -> Output
 pub fn binary(kind: BinaryKind, a: bool, b: bool, state: RowState) -> Output
     ensures answer { result ≡ binary_monitor kind a b state }
 {
-    let goes = state.active | state.pending;
+    let goes = state.goes();
     match kind {
         BinaryKind::And => checks(state.active & !(a & b)),
         BinaryKind::Or => checks(state.active & !(a | b)),

@@ -4,7 +4,7 @@ use mathlib.Core.Path.{◌≡◌, refl, sym, ap, ◌∙◌}
 use mathlib.Core.List.{List, [], ◌∷◌}
 use native.Mathlib.Omega.{arith}
 use lib.ListN.{length, get_or, take, length-append}
-use lib.Seq.{length-take-le}
+use lib.Seq.{get_or-take, length-take-le}
 use Rattle.tables.specs.Kind.{kinds, kind_at, kind_count, no_kind, word_of, place_of}
 use Rattle.tables.specs.Used.{used_rows}
 use Rattle.tables.specs.declared.kind.Kind.{Kind}
@@ -46,16 +46,20 @@ none_counted rows places = record { within = omega arith; short = omega arith; c
 
 module _ {rows : ℕ} {places : List RowPlace} {k n : ℕ} (inv : Counted rows places k n) (room : rows ≤ length places) where
   -- one row more
-  pub one_counted : (d : RowPlace) (number word numbers : ℕ) → k < rows → number ≡ length (decimal (k + 1)) → number ≤ 5
-      → word ≡ (kind_at (place_of (get_or places k d).row)).length → numbers ≡ length (numbers_text (get_or places k d).row) → numbers ≤ 12
+  pub one_counted : (d : RowPlace) (number word numbers : ℕ) → k < length (take rows places) → number ≡ length (decimal (k + 1)) → number ≤ 5
+      → word ≡ (kind_at (place_of (get_or (take rows places) k d).row)).length → numbers ≡ length (numbers_text (get_or (take rows places) k d).row) → numbers ≤ 12
       → Counted rows places (k + 1) (n + (3 + number + word + numbers))
   one_counted d number word numbers h e short-number f g short-numbers =
+      let few : k < rows = omega (arith, length-take-le rows places room) in
       let row : Row = (get_or places k d).row in
+      let same : get_or (take rows places) k d ≡ get_or places k d = get_or-take rows places k d few in
+      let word-there = rw same at f in
+      let numbers-there = rw same at g in
       let line : List ℕ = written_line (114 ∷ decimal (k + 1)) (written_row row) [] in
       let before : List ℕ = written_body 114 written_row 1 (take k (used_rows rows places)) in
       let size = line_length (114 ∷ decimal (k + 1)) (written_row row) [] in
       let value = length-append (word_of (kind_at (place_of row))) (numbers_text row) in
-      let all = sym (length-append before line) ∙ ap length (places_next (λ (p : RowPlace). p.row) rows places room 114 written_row k d h) in
+      let all = sym (length-append before line) ∙ ap length (places_next (λ (p : RowPlace). p.row) rows places room 114 written_row k d few) in
       record {
         within = omega arith;
         short = omega (arith, inv.short, word_most (place_of row) (kind_of_row row).0);

@@ -14,27 +14,24 @@ fn numbers_length(row: Row) -> usize
 {
     match row {
         Row::Constant(_) => 0,
-        Row::Signal(_, s) => 1 + number_length(s as u32),
-        Row::Unary(_, a) => 1 + number_length(a as u32),
+        Row::Signal(_, a) | Row::Unary(_, a) => 1 + number_length(a as u32),
         Row::Binary(_, a, b) => 2 + number_length(a as u32) + number_length(b as u32),
     }
 }
 
 // The lines of all rows: each has the letter r, its number, an equals sign, the row and a line feed. The table of kinds is stored once
 // for all of them.
+#[tactic(auto, using(crate::proofs::Rows::length_short))]
 pub fn rows_length(form: NormalForm) -> usize
     requires { form.rows ≤ 128 }
     ensures length { (result ≡ length (written_body 114 written_row 1 (rows_of form))) × (result ≤ 3584) }
 {
     let kinds = kind::table();
     let mut n = 0;
-    let mut k: u8 = 0;
-    while k < form.rows {
-        let place = form.places[k as usize];
+    for (k, place) in form.places[..form.rows as usize].iter().enumerate() {
         let row = place.row;
         let kind = kinds[kind::place_of(row)];
         n += 3 + number_length(k as u32 + 1) + kind.length + numbers_length(row);
-        k += 1;
     }
     n
 }
