@@ -43,8 +43,7 @@ pub fn pattern_of(row: Row) -> Pattern
     ensures pattern { meant result ≡ pattern_of row }
 {
     match row {
-        Row::Constant(_) => Pattern::Now,
-        Row::Signal(_, _) => Pattern::Now,
+        Row::Constant(_) | Row::Signal(_, _) => Pattern::Now,
         Row::Unary(kind, _) => unary(kind),
         Row::Binary(kind, _, _) => binary(kind),
     }

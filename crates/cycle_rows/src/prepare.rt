@@ -21,9 +21,7 @@ fn first_cell(row: Row) -> u8
     ensures cell { result ≡ cell_of (left row) }
 {
     match row {
-        Row::Constant(_) => 0,
-        Row::Signal(_, _) => 0,
-        Row::Unary(_, _) => 0,
+        Row::Constant(_) | Row::Signal(_, _) | Row::Unary(_, _) => 0,
         Row::Binary(_, a, _) => 31 + a,
     }
 }
@@ -35,8 +33,7 @@ fn second_cell(row: Row) -> u8
     match row {
         Row::Constant(_) => 0,
         Row::Signal(_, s) => s - 1,
-        Row::Unary(_, a) => 31 + a,
-        Row::Binary(_, _, b) => 31 + b,
+        Row::Unary(_, a) | Row::Binary(_, _, a) => 31 + a,
     }
 }
 
@@ -45,9 +42,7 @@ fn table(row: Row) -> u8
     ensures cases { (a b x : Bool) → case_in result (case_of a b x) ≡ step_bit row a b x }
 {
     let mut bits = 0u8;
-    let mut m = 8u8;
-    while m > 0 {
-        m -= 1;
+    for m in (0..8u8).rev() {
         let on = step_bit(row, m % 2 == 1, m / 2 % 2 == 1, m / 4 == 1);
         bits = on as u8 + 2 * (bits % 128);
     }
@@ -72,13 +67,7 @@ fn put_step(order: &mut [u8; 512], truth: &mut [u8; 128], i: usize, number: u8, 
 fn is_next(row: Row) -> bool
     ensures answer { result ≡ is_next (pattern_of row) }
 {
-    let pattern = pattern_of(row);
-    match pattern {
-        Pattern::Now => false,
-        Pattern::Next => true,
-        Pattern::Connective(_) => false,
-        Pattern::Temporal(_, _) => false,
-    }
+    matches!(pattern_of(row), Pattern::Next)
 }
 
 // In place, `next` has to read its operand before that is filled, so these rows come first, from the last; then all others in order.

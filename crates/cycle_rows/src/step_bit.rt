@@ -12,10 +12,7 @@ use tables::row::{ConstantKind, Row, SignalKind, UnaryKind};
 fn constant(kind: ConstantKind) -> bool
     ensures answer { result ≡ constant_bit kind }
 {
-    match kind {
-        ConstantKind::True => true,
-        ConstantKind::False => false,
-    }
+    matches!(kind, ConstantKind::True)
 }
 
 fn signal(kind: SignalKind, on: bool) -> bool
@@ -31,7 +28,10 @@ fn signal(kind: SignalKind, on: bool) -> bool
 fn signed(kind: UnaryKind, on: bool) -> bool
     ensures answer { result ≡ signed_bit (positive kind) on }
 {
-    if let UnaryKind::Not = kind { !on } else { on }
+    match kind {
+        UnaryKind::Not => !on,
+        UnaryKind::Next | UnaryKind::Always | UnaryKind::Ever => on,
+    }
 }
 
 // The right operand of a row, from what its cell holds.
@@ -51,8 +51,7 @@ fn left_constant(pattern: Pattern) -> bool
     ensures answer { result ≡ left_constant (meant pattern) }
 {
     match pattern {
-        Pattern::Now => true,
-        Pattern::Next => true,
+        Pattern::Now | Pattern::Next => true,
         Pattern::Connective(either) => either,
         Pattern::Temporal(until, _) => until,
     }
@@ -64,8 +63,7 @@ fn left_bit(row: Row, pattern: Pattern, a: bool) -> bool
     ensures answer { result ≡ from_cell (left row) a }
 {
     match row {
-        Row::Constant(_) => true,
-        Row::Signal(_, _) => true,
+        Row::Constant(_) | Row::Signal(_, _) => true,
         Row::Unary(_, _) => left_constant(pattern),
         Row::Binary(_, _, _) => a,
     }
@@ -76,8 +74,7 @@ fn pattern_bit(pattern: Pattern, a: bool, b: bool, own: bool) -> bool
     ensures answer { result ≡ pattern_from (meant pattern) a b b own }
 {
     match pattern {
-        Pattern::Now => b,
-        Pattern::Next => b,
+        Pattern::Now | Pattern::Next => b,
         Pattern::Connective(either) => if either { a | b } else { a & b },
         Pattern::Temporal(until, _) => if until { b | (a & own) } else { b & (a | own) },
     }
