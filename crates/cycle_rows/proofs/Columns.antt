@@ -17,12 +17,13 @@ use Rattle.normal_form.specs.Form.{InNormalForm}
 use Rattle.normal_form.proofs.FormTables.{form_operands, row_signals}
 use Rattle.cycle_rows.specs.Cycle.{row_from}
 use Rattle.cycle_rows.specs.Cells.{given_in, row_cell, FilledIn}
-use Rattle.cycle_rows.specs.Steps.{case_in, cell_of, case_of, StepsOf}
+use Rattle.cycle_rows.specs.declared.prepare.Step.{Step}
+use Rattle.cycle_rows.specs.Steps.{case_in, cell_of, case_of, step_in, StepsOf}
 use Rattle.cycle_rows.proofs.RowFrom.{row_from_local, step_bit_from, cells_below, turn_before, turn_after}
 
--- the case that step i finds, as the code has it
-abbrev pub found_case : List ℕ → List Bool → ℕ → ℕ
-found_case order cells i = bool_byte (get_or cells (get_or order (4 * i + 1) 0) false) + 2 * bool_byte (get_or cells (get_or order (4 * i + 2) 0) false) + 4 * bool_byte (get_or cells (get_or order (4 * i) 0) false)
+-- the case that a step finds, as the code has it
+abbrev pub found_case : Step → List Bool → ℕ
+found_case step cells = bool_byte (get_or cells step.first false) + 2 * bool_byte (get_or cells step.second false) + 4 * bool_byte (get_or cells step.own false)
 
 found_case_lem : (a b x : Bool) → bool_byte a + 2 * bool_byte b + 4 * bool_byte x ≡ case_of a b x
 found_case_lem true true true = refl
@@ -46,12 +47,12 @@ module _ (g : NormalForm) (turn : ℕ → ℕ) (before : List Bool) where
   pub filled_none : FilledTo 0 before
   filled_none = record { size = refl; filled = λ k a b h. absurd (omega arith); ahead = λ k a b h. refl; signals = λ j h. refl; behind = λ j h. refl }
 
-module _ {g : NormalForm} (ok : InNormalForm g) {order truth : List ℕ} (s : StepsOf g order truth) where
+module _ {g : NormalForm} (ok : InNormalForm g) {steps : List Step} (s : StepsOf g steps) where
   row_of : (k : ℕ) → 1 ≤ k → k ≤ g.rows → Each (λ a. (1 ≤ a) × (a < k)) (table_of g.places k) × EachSignal (λ n. (1 ≤ n) × (n ≤ 32)) (table_of g.places k)
   row_of k a b = (form_operands g ok k (omega arith), let e : suc (k - 1) ≡ k = omega arith in subst (λ m. EachSignal (λ n. (1 ≤ n) × (n ≤ 32)) (table_of g.places m)) e (row_signals g ok (k - 1) (omega arith)))
 
   -- the cells that a step names are among the 160
-  pub step_cells : (i : ℕ) → i < g.rows → (get_or order (4 * i) 0 < 160) × (get_or order (4 * i + 1) 0 < 160) × (get_or order (4 * i + 2) 0 < 160)
+  pub step_cells : (i : ℕ) → i < g.rows → ((step_in steps i).own < 160) × ((step_in steps i).first < 160) × ((step_in steps i).second < 160)
   step_cells i h =
       let k = s.row_at i in
       let a = s.stepped i h in
@@ -124,7 +125,7 @@ module _ {g : NormalForm} (ok : InNormalForm g) {order truth : List ℕ} (s : St
 
   -- what a step finds, looked up, is the row from the cells as they are
   step_told : (cells : List Bool) (i : ℕ) → i < g.rows
-      → case_in (get_or truth i 0) (found_case order cells i) ≡ row_from (given_in cells) (row_cell cells) (row_cell cells) (table_of g.places (s.row_at i)) (s.row_at i)
+      → case_in (step_in steps i).table (found_case (step_in steps i) cells) ≡ row_from (given_in cells) (row_cell cells) (row_cell cells) (table_of g.places (s.row_at i)) (s.row_at i)
   step_told cells i h =
       let p = s.step i h in
       let r = table_of g.places (s.row_at i) in
@@ -133,9 +134,9 @@ module _ {g : NormalForm} (ok : InNormalForm g) {order truth : List ℕ} (s : St
       (p.told (get_or cells (cell_of (left r)) false) (get_or cells (cell_of (right r)) false) (row_cell cells (s.row_at i)) ∙ step_bit_from cells r (s.row_at i))
 
   pub filled_step : {before cells : List Bool} {i : ℕ} → length before ≡ 160 → i < g.rows → FilledTo g s.turn before i cells
-      → FilledTo g s.turn before (suc i) (set cells (get_or order (4 * i) 0) (case_in (get_or truth i 0) (found_case order cells i)))
+      → FilledTo g s.turn before (suc i) (set cells (step_in steps i).own (case_in (step_in steps i).table (found_case (step_in steps i) cells)))
   filled_step {before} {cells} {i} sized h f =
-      let x = case_in (get_or truth i 0) (found_case order cells i) in
+      let x = case_in (step_in steps i).table (found_case (step_in steps i) cells) in
       subst (λ n. FilledTo g s.turn before (suc i) (set cells n x)) (sym (s.step i h).into) (filled_more sized h f x (step_told cells i h))
 
   pub filled_all : {before cells : List Bool} {i : ℕ} → g.rows ≤ i → FilledTo g s.turn before i cells → FilledIn g before cells

@@ -1,19 +1,20 @@
 -- The steps of a normal form as they are put: first the `next` rows, from the last, then the others. Assumes nothing.
-use Prim.Native.Nat.{ℕ, suc, ◌+◌, ◌-◌, ◌*◌, ◌≤◌, ◌<◌}
-use mathlib.Core.Path.{◌≡◌, sym, ap, subst}
+use Prim.Native.Nat.{ℕ, suc, ◌+◌, ◌-◌, ◌≤◌, ◌<◌}
+use mathlib.Core.Path.{◌≡◌, sym, ap, subst, ◌∙◌}
 use mathlib.Core.Bool.{Bool, true, false, not}
 use mathlib.Core.List.{List}
 use mathlib.Core.Logic.{◌⊎◌, inl, inr}
 use native.Mathlib.Decide.{ℕ_discrete}
 use native.Mathlib.Omega.{arith}
-use lib.ListN.{length, get_or}
-use Rattle.tables.specs.declared.row.Row.{Row}
+use lib.ListN.{length, set, length-set}
 use Rattle.tables.specs.declared.row.NormalForm.{NormalForm}
 use Rattle.meaning.specs.Satisfaction.{table_of}
 use Rattle.meaning.proofs.Readings.{on_or_off, on_and_off}
 use Rattle.normal_form.specs.Form.{InNormalForm}
 use Rattle.normal_form.proofs.FormTables.{form_operands}
-use Rattle.cycle_rows.specs.Steps.{StepFor, StepsOf}
+use Rattle.cycle_rows.specs.declared.prepare.Step.{Step}
+use Rattle.cycle_rows.specs.Steps.{StepFor, StepsOf, step_in}
+use Rattle.cycle_rows.proofs.Steps.{step_put, step_stays}
 use Rattle.cycle_rows.proofs.Turns.{count, count_none, count_more, count_same, next_at, other_at, turn_of, turn_next, turn_other, next_next, next_other, other_other, turn_below, RowAt, row_at_lem, turns_right}
 
 abbrev pub form_turn : NormalForm → ℕ → ℕ
@@ -29,59 +30,55 @@ abbrev pub others : NormalForm → ℕ → ℕ
 others g = count (other_at (table_of g.places))
 
 -- the rows that have P are put as steps
-pub record Stepped (g : NormalForm) (P : ℕ → Type 0) (order truth : List ℕ) : Type 0 where
-  pub bytes : length order ≡ 512
-  pub bits : length truth ≡ 128
-  pub steps : (k : ℕ) → 1 ≤ k → k ≤ g.rows → P k → StepFor order truth (form_turn g k) k (table_of g.places k)
+pub record Stepped (g : NormalForm) (P : ℕ → Type 0) (steps : List Step) : Type 0 where
+  pub long : length steps ≡ 128
+  pub put : (k : ℕ) → 1 ≤ k → k ≤ g.rows → P k → StepFor (step_in steps (form_turn g k)) k (table_of g.places k)
 
 -- the `next` rows above k are put: i steps
-pub record NextsTo (g : NormalForm) (k i : ℕ) (order truth : List ℕ) : Type 0 where
+pub record NextsTo (g : NormalForm) (k i : ℕ) (steps : List Step) : Type 0 where
   pub within : k ≤ g.rows
   pub counted : i + nexts g k ≡ nexts g g.rows
-  pub stepped : Stepped g (λ m. (k < m) × (form_next g m ≡ true)) order truth
+  pub stepped : Stepped g (λ m. (k < m) × (form_next g m ≡ true)) steps
 
 -- all `next` rows are put, and the others up to k: i steps
-pub record OthersTo (g : NormalForm) (k i : ℕ) (order truth : List ℕ) : Type 0 where
+pub record OthersTo (g : NormalForm) (k i : ℕ) (steps : List Step) : Type 0 where
   pub within : k ≤ g.rows
   pub counted : i ≡ nexts g g.rows + others g k
-  pub stepped : Stepped g (λ m. (form_next g m ≡ true) ⊎ (m ≤ k)) order truth
+  pub stepped : Stepped g (λ m. (form_next g m ≡ true) ⊎ (m ≤ k)) steps
 
 -- ---- one more step
 
-abbrev pub OthersStay : List ℕ → List ℕ → ℕ → List ℕ → List ℕ → Type 0
-OthersStay order truth i after told = (j m : ℕ) (r : Row) → (j ≡ i → ⊥) → StepFor order truth j m r → StepFor after told j m r
-
-module _ {g : NormalForm} {P : ℕ → Type 0} {order after truth told : List ℕ} where
-  stepped_more : (k i : ℕ) (Q : ℕ → Type 0) → Stepped g P order truth → form_turn g k ≡ i → (length after ≡ 512) × (length told ≡ 128)
-      → StepFor after told i k (table_of g.places k) → OthersStay order truth i after told
-      → ((m : ℕ) → 1 ≤ m → m ≤ g.rows → (m ≡ k → ⊥) → Q m → P m × (form_turn g m ≡ i → ⊥)) → Stepped g Q after told
-  stepped_more k i Q s e sizes put stay old = record { bytes = sizes.0; bits = sizes.1; steps = λ m a b q. by m a b q (ℕ_discrete m k) }
+module _ {g : NormalForm} {P : ℕ → Type 0} {steps : List Step} where
+  stepped_more : (k i : ℕ) (Q : ℕ → Type 0) (step : Step) → Stepped g P steps → form_turn g k ≡ i → i < 128 → StepFor step k (table_of g.places k)
+      → ((m : ℕ) → 1 ≤ m → m ≤ g.rows → (m ≡ k → ⊥) → Q m → P m × (form_turn g m ≡ i → ⊥)) → Stepped g Q (set steps i step)
+  stepped_more k i Q step s e room here old = record { long = length-set steps i step ∙ s.long; put = λ m a b q. by m a b q (ℕ_discrete m k) }
     where
-      by : (m : ℕ) → 1 ≤ m → m ≤ g.rows → Q m → Dec (m ≡ k) → StepFor after told (form_turn g m) m (table_of g.places m)
-      by m a b q (yes d) = subst (λ n. StepFor after told (form_turn g n) n (table_of g.places n)) (sym d) (subst (λ j. StepFor after told j k (table_of g.places k)) (sym e) put)
-      by m a b q (no d) = let o = old m a b d q in stay (form_turn g m) m (table_of g.places m) o.1 (s.steps m a b o.0)
+      by : (m : ℕ) → 1 ≤ m → m ≤ g.rows → Q m → Dec (m ≡ k) → StepFor (step_in (set steps i step) (form_turn g m)) m (table_of g.places m)
+      by m a b q (yes d) = subst (λ n. StepFor (step_in (set steps i step) (form_turn g n)) n (table_of g.places n)) (sym d)
+          (subst (λ j. StepFor (step_in (set steps i step) j) k (table_of g.places k)) (sym e) (step_put steps i step k (table_of g.places k) (omega (arith, s.long)) here))
+      by m a b q (no d) = let o = old m a b d q in step_stays steps i step m (table_of g.places m) (form_turn g m) o.1 (s.put m a b o.0)
 
-module _ {g : NormalForm} {P Q : ℕ → Type 0} {order truth : List ℕ} where
-  stepped_same : Stepped g P order truth → ((m : ℕ) → 1 ≤ m → m ≤ g.rows → Q m → P m) → Stepped g Q order truth
-  stepped_same s f = record { bytes = s.bytes; bits = s.bits; steps = λ m a b q. s.steps m a b (f m a b q) }
+module _ {g : NormalForm} {P Q : ℕ → Type 0} {steps : List Step} where
+  stepped_same : Stepped g P steps → ((m : ℕ) → 1 ≤ m → m ≤ g.rows → Q m → P m) → Stepped g Q steps
+  stepped_same s f = record { long = s.long; put = λ m a b q. s.put m a b (f m a b q) }
 
 -- ---- the `next` rows
 
-module _ {g : NormalForm} {order truth : List ℕ} where
-  pub nexts_none : length order ≡ 512 → length truth ≡ 128 → NextsTo g g.rows 0 order truth
-  nexts_none a b = record { within = omega arith; counted = omega arith; stepped = record { bytes = a; bits = b; steps = λ k x y p. absurd (omega (arith, p.0)) } }
+module _ {g : NormalForm} {steps : List Step} where
+  pub nexts_none : length steps ≡ 128 → NextsTo g g.rows 0 steps
+  nexts_none l = record { within = omega arith; counted = omega arith; stepped = record { long = l; put = λ k x y p. absurd (omega (arith, p.0)) } }
 
   -- the code counts down before it reads
-  pub nexts_at : {k i : ℕ} → NextsTo g k i order truth → 0 < k → NextsTo g (suc (k - 1)) i order truth
-  nexts_at {k} {i} n h = let e : k ≡ suc (k - 1) = omega arith in subst (λ m. NextsTo g m i order truth) e n
+  pub nexts_at : {k i : ℕ} → NextsTo g k i steps → 0 < k → NextsTo g (suc (k - 1)) i steps
+  nexts_at {k} {i} n h = let e : k ≡ suc (k - 1) = omega arith in subst (λ m. NextsTo g m i steps) e n
 
-  pub nexts_turn : {k i : ℕ} → NextsTo g (suc k) i order truth → form_next g (suc k) ≡ true → form_turn g (suc k) ≡ i
+  pub nexts_turn : {k i : ℕ} → NextsTo g (suc k) i steps → form_next g (suc k) ≡ true → form_turn g (suc k) ≡ i
   nexts_turn {k} n e = omega (arith, turn_next (table_of g.places) g.rows (suc k) e, n.counted)
 
-  pub nexts_room : {k i : ℕ} → InNormalForm g → NextsTo g (suc k) i order truth → form_next g (suc k) ≡ true → i < 128
+  pub nexts_room : {k i : ℕ} → InNormalForm g → NextsTo g (suc k) i steps → form_next g (suc k) ≡ true → i < 128
   nexts_room {k} ok n e = omega (arith, nexts_turn n e, turn_below (table_of g.places) g.rows (suc k) (omega arith) n.within, ok.most_rows)
 
-  pub nexts_skip : {k i : ℕ} → NextsTo g (suc k) i order truth → form_next g (suc k) ≡ false → NextsTo g k i order truth
+  pub nexts_skip : {k i : ℕ} → NextsTo g (suc k) i steps → form_next g (suc k) ≡ false → NextsTo g k i steps
   nexts_skip {k} n e = record {
     within = omega (arith, n.within);
     counted = omega (arith, n.counted, count_same (form_next g) k e);
@@ -92,12 +89,12 @@ module _ {g : NormalForm} {order truth : List ℕ} where
       by m q (yes d) = on_and_off q.1 (rw d e)
       by m q (no d) = let h = q.0 in (omega arith, q.1)
 
-  pub nexts_put : {k i : ℕ} {after told : List ℕ} → NextsTo g (suc k) i order truth → form_next g (suc k) ≡ true → (length after ≡ 512) × (length told ≡ 128)
-      → StepFor after told i (suc k) (table_of g.places (suc k)) → OthersStay order truth i after told → NextsTo g k (suc i) after told
-  nexts_put {k} {i} n e sizes put stay = record {
+  pub nexts_put : {k i : ℕ} (step : Step) → InNormalForm g → NextsTo g (suc k) i steps → form_next g (suc k) ≡ true
+      → StepFor step (k + 1) (table_of g.places (suc k)) → NextsTo g k (i + 1) (set steps i step)
+  nexts_put {k} {i} step ok n e put = record {
     within = omega (arith, n.within);
     counted = omega (arith, n.counted, count_more (form_next g) k e);
-    stepped = stepped_more (suc k) i (λ m. (k < m) × (form_next g m ≡ true)) n.stepped (nexts_turn n e) sizes put stay (λ m a b d q. old m b d q);
+    stepped = stepped_more (suc k) i (λ m. (k < m) × (form_next g m ≡ true)) step n.stepped (nexts_turn n e) (nexts_room ok n e) (let d : k + 1 ≡ suc k = omega arith in rw d at put) (λ m a b d q. old m b d q);
   }
     where
       old : (m : ℕ) → m ≤ g.rows → (m ≡ suc k → ⊥) → (k < m) × (form_next g m ≡ true) → ((suc k < m) × (form_next g m ≡ true)) × (form_turn g m ≡ i → ⊥)
@@ -105,7 +102,7 @@ module _ {g : NormalForm} {order truth : List ℕ} where
 
   -- ---- the others
 
-  pub others_none : {i : ℕ} → NextsTo g 0 i order truth → OthersTo g 0 i order truth
+  pub others_none : {i : ℕ} → NextsTo g 0 i steps → OthersTo g 0 i steps
   others_none n = record {
     within = omega arith;
     counted = omega (arith, n.counted, count_none (form_next g), count_none (other_at (table_of g.places)));
@@ -116,13 +113,13 @@ module _ {g : NormalForm} {order truth : List ℕ} where
       by m a (inl e) = (a, e)
       by m a (inr h) = absurd (omega arith)
 
-  pub others_turn : {k i : ℕ} → OthersTo g k i order truth → form_next g (suc k) ≡ false → form_turn g (suc k) ≡ i
+  pub others_turn : {k i : ℕ} → OthersTo g k i steps → form_next g (suc k) ≡ false → form_turn g (suc k) ≡ i
   others_turn {k} n e = omega (arith, turn_other (table_of g.places) g.rows (suc k) e, n.counted, count_more (other_at (table_of g.places)) k (ap not e))
 
-  pub others_room : {k i : ℕ} → InNormalForm g → OthersTo g k i order truth → k < g.rows → form_next g (suc k) ≡ false → i < 128
+  pub others_room : {k i : ℕ} → InNormalForm g → OthersTo g k i steps → k < g.rows → form_next g (suc k) ≡ false → i < 128
   others_room {k} ok n l e = omega (arith, others_turn n e, turn_below (table_of g.places) g.rows (suc k) (omega arith) l, ok.most_rows)
 
-  pub others_skip : {k i : ℕ} → OthersTo g k i order truth → k < g.rows → form_next g (suc k) ≡ true → OthersTo g (suc k) i order truth
+  pub others_skip : {k i : ℕ} → OthersTo g k i steps → k < g.rows → form_next g (suc k) ≡ true → OthersTo g (suc k) i steps
   others_skip {k} n l e = record {
     within = l;
     counted = omega (arith, n.counted, count_same (other_at (table_of g.places)) k (ap not e));
@@ -134,12 +131,12 @@ module _ {g : NormalForm} {order truth : List ℕ} where
       by m (inl q) (no d) = inl q
       by m (inr q) (no d) = inr (omega arith)
 
-  pub others_put : {k i : ℕ} {after told : List ℕ} → OthersTo g k i order truth → k < g.rows → form_next g (suc k) ≡ false → (length after ≡ 512) × (length told ≡ 128)
-      → StepFor after told i (suc k) (table_of g.places (suc k)) → OthersStay order truth i after told → OthersTo g (suc k) (suc i) after told
-  others_put {k} {i} n l e sizes put stay = record {
+  pub others_put : {k i : ℕ} (step : Step) → InNormalForm g → OthersTo g k i steps → k < g.rows → form_next g (suc k) ≡ false
+      → StepFor step (k + 1) (table_of g.places (suc k)) → OthersTo g (suc k) (i + 1) (set steps i step)
+  others_put {k} {i} step ok n l e put = record {
     within = l;
     counted = omega (arith, n.counted, count_more (other_at (table_of g.places)) k (ap not e));
-    stepped = stepped_more (suc k) i (λ m. (form_next g m ≡ true) ⊎ (m ≤ suc k)) n.stepped (others_turn n e) sizes put stay (λ m a b d q. old m a b d q (on_or_off (form_next g m)));
+    stepped = stepped_more (suc k) i (λ m. (form_next g m ≡ true) ⊎ (m ≤ suc k)) step n.stepped (others_turn n e) (others_room ok n l e) (let d : k + 1 ≡ suc k = omega arith in rw d at put) (λ m a b d q. old m a b d q (on_or_off (form_next g m)));
   }
     where
       old : (m : ℕ) → 1 ≤ m → m ≤ g.rows → (m ≡ suc k → ⊥) → (form_next g m ≡ true) ⊎ (m ≤ suc k) → (form_next g m ≡ true) ⊎ (form_next g m ≡ false) → ((form_next g m ≡ true) ⊎ (m ≤ k)) × (form_turn g m ≡ i → ⊥)
@@ -149,13 +146,13 @@ module _ {g : NormalForm} {order truth : List ℕ} where
 
 -- ---- all rows
 
-module _ {g : NormalForm} (ok : InNormalForm g) {order truth : List ℕ} {i : ℕ} (n : OthersTo g g.rows i order truth) where
-  step_of : (k : ℕ) → 1 ≤ k → k ≤ g.rows → StepFor order truth (form_turn g k) k (table_of g.places k)
-  step_of k a b = n.stepped.steps k a b (inr b)
+module _ {g : NormalForm} (ok : InNormalForm g) {steps : List Step} {i : ℕ} (n : OthersTo g g.rows i steps) where
+  step_of : (k : ℕ) → 1 ≤ k → k ≤ g.rows → StepFor (step_in steps (form_turn g k)) k (table_of g.places k)
+  step_of k a b = n.stepped.put k a b (inr b)
 
   -- a step names its row by the row's cell
   abbrev number_at : ℕ → ℕ
-  number_at j = get_or order (4 * j) 0 - 31
+  number_at j = (step_in steps j).own - 31
 
   number_turn : (k : ℕ) → 1 ≤ k → k ≤ g.rows → number_at (form_turn g k) ≡ k
   number_turn k a b = omega (arith, (step_of k a b).into)
@@ -167,11 +164,11 @@ module _ {g : NormalForm} (ok : InNormalForm g) {order truth : List ℕ} {i : �
     number_right : (1 ≤ number_at j) × (number_at j ≤ g.rows) × (form_turn g (number_at j) ≡ j)
     number_right = subst (λ k. (1 ≤ k) × (k ≤ g.rows) × (form_turn g k ≡ j)) number_is (r.some, r.most, r.turns)
 
-    number_step : StepFor order truth j (number_at j) (table_of g.places (number_at j))
-    number_step = subst (λ k. StepFor order truth j k (table_of g.places k)) number_is
-        (subst (λ x. StepFor order truth x r.number (table_of g.places r.number)) r.turns (step_of r.number r.some r.most))
+    number_step : StepFor (step_in steps j) (number_at j) (table_of g.places (number_at j))
+    number_step = subst (λ k. StepFor (step_in steps j) k (table_of g.places k)) number_is
+        (subst (λ x. StepFor (step_in steps x) r.number (table_of g.places r.number)) r.turns (step_of r.number r.some r.most))
 
-  pub steps_all : StepsOf g order truth
+  pub steps_all : StepsOf g steps
   steps_all = record {
     row_at = number_at;
     turn = form_turn g;

@@ -4,10 +4,13 @@ use Rattle.tables.specs.Choice.{pick}
 use Rattle.tables.specs.declared.row.Row.{Row}
 use Rattle.tables.specs.declared.row.NormalForm.{NormalForm}
 use Rattle.meaning.specs.Satisfaction.{table_of}
-use Rattle.meaning.specs.Rows.{Each}
 use Rattle.meaning.specs.Pattern.{Pattern, Pattern.now, Pattern.next, Pattern.connective, Pattern.temporal}
 use Rattle.meaning.specs.Pattern.{Operand, Operand.constant, Operand.signal, Operand.row, left, right, pattern_of, signed_bit}
+use Rattle.meaning.specs.Rows.{Each, EachSignal}
+use Rattle.normal_form.specs.Form.{InNormalForm}
 use Rattle.cycle_rows.specs.Cycle.{pattern_from}
+use Rattle.cycle_rows.specs.declared.prepare.Step.{Step}
+use Rattle.cycle_rows.specs.declared.prepare.Steps.{Steps}
 
 -- the cell of an operand; a constant needs none, and any serves
 abbrev pub cell_of : Operand → ℕ
@@ -41,12 +44,19 @@ case_of a b x = pick a 1 0 + 2 * pick b 1 0 + 4 * pick x 1 0
 abbrev pub case_in : ℕ → ℕ → Bool
 case_in table m = eqb (table / 2 ^ m % 2) 1
 
--- step i fills row k, whose row is r: four bytes (its cell, those of its operands, one unused), and a table of eight cases in one byte
-pub record StepFor (order truth : List ℕ) (i k : ℕ) (r : Row) : Type 0 where
-  pub into : get_or order (4 * i) 0 ≡ 31 + k
-  pub first : get_or order (4 * i + 1) 0 ≡ cell_of (left r)
-  pub second : get_or order (4 * i + 2) 0 ≡ cell_of (right r)
-  pub told : (a b x : Bool) → case_in (get_or truth i 0) (case_of a b x) ≡ step_bit r a b x
+-- each operand of a row has a cell, and so has its signal
+abbrev pub InCells : Row → Type 0
+InCells r = Each (λ a. (1 ≤ a) × (a ≤ 128)) r × EachSignal (λ s. (1 ≤ s) × (s ≤ 32)) r
+
+-- a step fills row k, whose row is r: its cell, those of its operands, and a table of eight cases in one byte
+pub record StepFor (step : Step) (k : ℕ) (r : Row) : Type 0 where
+  pub into : step.own ≡ 31 + k
+  pub first : step.first ≡ cell_of (left r)
+  pub second : step.second ≡ cell_of (right r)
+  pub told : (a b x : Bool) → case_in step.table (case_of a b x) ≡ step_bit r a b x
+
+abbrev pub step_in : List Step → ℕ → Step
+step_in steps i = get_or steps i (record { own = 0; first = 0; second = 0; table = 0 })
 
 abbrev pub is_next : Pattern → Bool
 is_next now = false
@@ -62,10 +72,16 @@ InTurn turn k r (connective f) = Each (λ a. turn a < turn k) r
 InTurn turn k r (temporal f w) = Each (λ a. turn a < turn k) r
 
 -- the steps of a normal form: `row_at` i is the row of step i, and `turn` k the step of row k
-pub record StepsOf (g : NormalForm) (order truth : List ℕ) : Type 0 where
+pub record StepsOf (g : NormalForm) (steps : List Step) : Type 0 where
   pub row_at : ℕ → ℕ
   pub turn : ℕ → ℕ
   pub stepped : (i : ℕ) → i < g.rows → (1 ≤ row_at i) × (row_at i ≤ g.rows) × (turn (row_at i) ≡ i)
   pub turned : (k : ℕ) → 1 ≤ k → k ≤ g.rows → (turn k < g.rows) × (row_at (turn k) ≡ k)
-  pub step : (i : ℕ) → i < g.rows → StepFor order truth i (row_at i) (table_of g.places (row_at i))
+  pub step : (i : ℕ) → i < g.rows → StepFor (step_in steps i) (row_at i) (table_of g.places (row_at i))
   pub in_turn : (k : ℕ) → 1 ≤ k → k ≤ g.rows → InTurn turn k (table_of g.places k) (pattern_of (table_of g.places k))
+
+-- a normal form is prepared as these steps
+pub record Prepared (g : NormalForm) (p : Steps) : Type 0 where
+  pub form : InNormalForm g
+  pub rows : g.rows ≡ p.rows
+  pub steps : StepsOf g p.list

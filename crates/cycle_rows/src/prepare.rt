@@ -1,23 +1,31 @@
 // The steps of a normal form: each row with the cells that it reads, and its table.
-ghost use Rattle.std.specs.Prelude.{Bool, ◌≡◌, ℕ, ◌≤◌, ◌<◌, length};
-ghost use Rattle.meaning.specs.Rows.{Each, EachSignal};
+ghost use Rattle.std.specs.Prelude.{Bool, ◌≡◌, ◌≤◌};
 ghost use Rattle.meaning.specs.Pattern.{left, pattern_of, right};
 ghost use Rattle.normal_form.specs.Form.{InNormalForm};
-ghost use Rattle.cycle_rows.specs.Steps.{case_in, case_of, cell_of, is_next, step_bit, StepFor, StepsOf};
-ghost use Rattle.tables.specs.declared.row.Row.{Row as AnyRow};
+ghost use Rattle.cycle_rows.specs.Steps.{case_in, case_of, cell_of, InCells, is_next, Prepared, step_bit, StepFor};
 
 use crate::pattern::{Pattern, pattern_of};
 use crate::step_bit::step_bit;
 use tables::row::{NormalForm, Row};
 
+// A step: the cell of its row, those of the row's operands, and the row's table.
+#[derive(Clone, Copy)]
+pub struct Step {
+    pub own: u8,
+    pub first: u8,
+    pub second: u8,
+    pub table: u8,
+}
+
+// The first `rows` of the list are the steps, in their order.
 #[derive(Clone, Copy)]
 pub struct Steps {
-    pub order: [u8; 512],
-    pub truth: [u8; 128],
+    pub rows: usize,
+    pub list: [Step; 128],
 }
 
 fn first_cell(row: Row) -> u8
-    requires { Each (λ a. (1 ≤ a) × (a ≤ 128)) row }
+    requires { InCells row }
     ensures cell { result ≡ cell_of (left row) }
 {
     match row {
@@ -27,7 +35,7 @@ fn first_cell(row: Row) -> u8
 }
 
 fn second_cell(row: Row) -> u8
-    requires { Each (λ a. (1 ≤ a) × (a ≤ 128)) row × EachSignal (λ s. (1 ≤ s) × (s ≤ 32)) row }
+    requires { InCells row }
     ensures cell { result ≡ cell_of (right row) }
 {
     match row {
@@ -49,19 +57,17 @@ fn table(row: Row) -> u8
     bits
 }
 
-// Step i: row `number`, which is `row`. The other steps stay.
-fn put_step(order: &mut [u8; 512], truth: &mut [u8; 128], i: usize, number: u8, row: Row)
-    requires { (length order.old ≡ 512) × (length truth.old ≡ 128) × (i < 128) × (1 ≤ number) × (number ≤ 128)
-        × Each (λ a. (1 ≤ a) × (a ≤ 128)) row × EachSignal (λ s. (1 ≤ s) × (s ≤ 32)) row }
-    ensures sizes { (length order.new ≡ 512) × (length truth.new ≡ 128) }
-    ensures put { StepFor order.new truth.new i number row }
-    ensures others { (j k : ℕ) (other : AnyRow) → (j ≡ i → ⊥) → StepFor order.old truth.old j k other
-        → StepFor order.new truth.new j k other }
+// The step of row `number`, which is `row`.
+fn step_for(number: u8, row: Row) -> Step
+    requires { (number ≤ 128) × InCells row }
+    ensures step { StepFor result number row }
 {
-    order[4 * i] = 31 + number;
-    order[4 * i + 1] = first_cell(row);
-    order[4 * i + 2] = second_cell(row);
-    truth[i] = table(row);
+    Step {
+        own: 31 + number,
+        first: first_cell(row),
+        second: second_cell(row),
+        table: table(row),
+    }
 }
 
 fn is_next(row: Row) -> bool
@@ -73,31 +79,29 @@ fn is_next(row: Row) -> bool
 // In place, `next` has to read its operand before that is filled, so these rows come first, from the last; then all others in order.
 pub fn prepare(form: NormalForm) -> Steps
     requires { InNormalForm form }
-    ensures steps { StepsOf form result.order result.truth }
+    ensures steps { Prepared form result }
 {
     let rows = form.rows as usize;
-    let mut order = [0; 512];
-    let mut truth = [0; 128];
+    let mut list = [Step {
+        own: 0,
+        first: 0,
+        second: 0,
+        table: 0,
+    }; 128];
     let mut i = 0;
-    let mut k = rows;
-    while k > 0 {
-        let number = k as u8;
-        k -= 1;
-        let place = form.places[k];
-        let row = place.row;
+    for k in (0..rows).rev() {
+        let row = form.places[k].row;
         if is_next(row) {
-            put_step(&mut order, &mut truth, i, number, row);
+            list[i] = step_for(k as u8 + 1, row);
             i += 1;
         }
     }
-    while k < rows {
-        let place = form.places[k];
-        let row = place.row;
-        k += 1;
+    for k in 0..rows {
+        let row = form.places[k].row;
         if !is_next(row) {
-            put_step(&mut order, &mut truth, i, k as u8, row);
+            list[i] = step_for(k as u8 + 1, row);
             i += 1;
         }
     }
-    Steps { order, truth }
+    Steps { rows, list }
 }
