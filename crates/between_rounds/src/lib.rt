@@ -1,76 +1,69 @@
 // Between two rounds: which rows are sure, and where the next round starts. No cycle is filled here.
 #![tactic(auto)]
 
-ghost use Rattle.std.specs.Prelude.{◌≡◌, true, false, ℕ, suc, ◌≤◌, ◌<◌, length, set};
+ghost use Rattle.std.specs.Prelude.{Bool, ◌≡◌, true, false, ℕ, suc, ◌<◌};
 ghost use Rattle.meaning.specs.Rows.{Each};
 ghost use Rattle.meaning.specs.Satisfaction.{table_of};
 ghost use Rattle.meaning.specs.Pattern.{pattern_of};
 ghost use Rattle.normal_form.specs.Form.{InNormalForm};
-ghost use Rattle.cycle_rows.specs.Cells.{row_cell};
+ghost use Rattle.cycle_rows.specs.Cells.{IsRowNumber, row_cell};
 ghost use Rattle.between_rounds.specs.Between.{every_operand, handed, Handed, same_bit, same_in, stays, sure_in, Surveyed};
 
 use cycle_rows::pattern::{Pattern, pattern_of};
 use tables::row::{NormalForm, Row};
 
 fn sure_at(sure: &[bool; 128], number: u8) -> bool
-    requires { (1 ≤ number) × (number ≤ 128) }
+    requires { IsRowNumber number }
     ensures answer { result ≡ sure_in sure.now number }
 {
     sure[number as usize - 1]
 }
 
-// A bit is written. An array is lent for it as a slice, since a proof is told a slice's length and not that of an array behind a reference.
-fn put(bits: &mut [bool], at: usize, on: bool)
-    requires { at < length bits.old }
-    ensures stored { bits.new ≡ set bits.old at on }
-{
-    bits[at] = on;
-}
-
 // Whether a row is at the loop's cycle what stood behind the last one.
 fn same_at(behind: &[bool; 160], cells: &[bool; 160], number: u8) -> bool
-    requires { (1 ≤ number) × (number ≤ 128) }
+    requires { IsRowNumber number }
     ensures answer { result ≡ same_bit (row_cell behind.now number) (row_cell cells.now number) }
 {
     let at = 31 + number as usize;
-    if behind[at] { cells[at] } else { !cells[at] }
+    behind[at] == cells[at]
+}
+
+// Whether each operand of a row has what is asked.
+fn every_operand<F: Fn(u8) -> bool>(row: Row, holds: F) -> bool
+    requires { Each (λ a. F.pre holds a) row }
+    ensures answer { (asked : ℕ → Bool) → Each (λ a. (on : Bool) → F.post holds a on → on ≡ asked a) row
+        → result ≡ every_operand asked row }
+{
+    match row {
+        Row::Constant(_) | Row::Signal(_, _) => true,
+        Row::Unary(_, a) => holds(a),
+        Row::Binary(_, a, b) => holds(a) & holds(b),
+    }
 }
 
 fn operands_sure(row: Row, sure: &[bool; 128]) -> bool
-    requires { Each (λ a. (1 ≤ a) × (a ≤ 128)) row }
+    requires { Each IsRowNumber row }
     ensures answer { result ≡ every_operand (sure_in sure.now) row }
 {
-    match row {
-        Row::Constant(_) => true,
-        Row::Signal(_, _) => true,
-        Row::Unary(_, a) => sure_at(sure, a),
-        Row::Binary(_, a, b) => sure_at(sure, a) & sure_at(sure, b),
-    }
+    every_operand(row, |a| sure_at(sure, a))
 }
 
 // Whether each operand is at the loop's cycle what stood behind the last one.
 fn operands_same(row: Row, behind: &[bool; 160], cells: &[bool; 160]) -> bool
-    requires { Each (λ a. (1 ≤ a) × (a ≤ 128)) row }
+    requires { Each IsRowNumber row }
     ensures answer { result ≡ every_operand (same_in behind.now cells.now) row }
 {
-    match row {
-        Row::Constant(_) => true,
-        Row::Signal(_, _) => true,
-        Row::Unary(_, a) => same_at(behind, cells, a),
-        Row::Binary(_, a, b) => same_at(behind, cells, a) & same_at(behind, cells, b),
-    }
+    every_operand(row, |a| same_at(behind, cells, a))
 }
 
 // Whether what a row reads behind the last cycle is what the round has left at the loop's.
 fn row_stays(row: Row, number: u8, behind: &[bool; 160], cells: &[bool; 160]) -> bool
-    requires { Each (λ a. (1 ≤ a) × (a ≤ 128)) row × (1 ≤ number) × (number ≤ 128) }
+    requires { Each IsRowNumber row × IsRowNumber number }
     ensures answer { result ≡ stays (same_in behind.now cells.now) number row (pattern_of row) }
 {
-    let pattern = pattern_of(row);
-    match pattern {
-        Pattern::Now => true,
+    match pattern_of(row) {
+        Pattern::Now | Pattern::Connective(_) => true,
         Pattern::Next => operands_same(row, behind, cells),
-        Pattern::Connective(_) => true,
         Pattern::Temporal(_, _) => same_at(behind, cells, number),
     }
 }
@@ -88,16 +81,11 @@ pub fn survey(
     ensures all { result ≡ true → (k : ℕ) → k < form.rows → sure_in sure.new (suc k) ≡ true }
     ensures some { result ≡ false → (k : ℕ) × (k < form.rows) × (sure_in sure.new (suc k) ≡ false) }
 {
-    let rows = form.rows;
     let mut all = true;
-    let mut k = 0u8;
-    while k < rows {
-        let at = k as usize;
-        let place = form.places[at];
-        let row = place.row;
-        k += 1;
-        let on = operands_sure(row, &*sure) & row_stays(row, k, behind, cells);
-        put(sure, at, on);
+    for k in 0..form.rows as usize {
+        let row = form.places[k].row;
+        let on = operands_sure(row, &*sure) & row_stays(row, k as u8 + 1, behind, cells);
+        sure[k] = on;
         all = all & on;
     }
     all
@@ -108,11 +96,8 @@ pub fn survey(
 fn row_handed(row: Row, operands: bool, left: bool) -> bool
     ensures answer { result ≡ handed (pattern_of row) operands left }
 {
-    let pattern = pattern_of(row);
-    match pattern {
-        Pattern::Now => left,
-        Pattern::Next => left,
-        Pattern::Connective(_) => left,
+    match pattern_of(row) {
+        Pattern::Now | Pattern::Next | Pattern::Connective(_) => left,
         Pattern::Temporal(_, start) => if operands { left } else { start },
     }
 }
@@ -123,14 +108,9 @@ pub fn restart(form: NormalForm, sure: &[bool; 128], cells: &mut [bool; 160])
     ensures started { Handed (table_of form.places) form.rows (sure_in sure.now) (row_cell cells.old)
         (row_cell cells.new) }
 {
-    let rows = form.rows as usize;
-    let mut k = 0;
-    while k < rows {
-        let place = form.places[k];
-        let row = place.row;
+    for k in 0..form.rows as usize {
+        let row = form.places[k].row;
         let operands = operands_sure(row, sure);
-        let start = row_handed(row, operands, cells[32 + k]);
-        put(cells, 32 + k, start);
-        k += 1;
+        cells[32 + k] = row_handed(row, operands, cells[32 + k]);
     }
 }

@@ -10,6 +10,13 @@ signal_cell cells s = get_or cells (s - 1) false
 abbrev pub row_cell : List Bool → ℕ → Bool
 row_cell cells k = get_or cells (31 + k) false
 
+-- the numbers that have a cell
+abbrev pub IsSignalNumber : ℕ → Type 0
+IsSignalNumber s = (1 ≤ s) × (s ≤ 32)
+
+abbrev pub IsRowNumber : ℕ → Type 0
+IsRowNumber k = (1 ≤ k) × (k ≤ 128)
+
 -- what a cycle is given, in its cells
 abbrev pub given_in : List Bool → Given
 given_in cells = record { signals = signal_cell cells }

@@ -9,6 +9,7 @@ use Rattle.meaning.specs.Pattern.{Operand, Operand.constant, Operand.signal, Ope
 use Rattle.meaning.specs.Rows.{Each, EachSignal}
 use Rattle.normal_form.specs.Form.{InNormalForm}
 use Rattle.cycle_rows.specs.Cycle.{pattern_from}
+use Rattle.cycle_rows.specs.Cells.{IsRowNumber, IsSignalNumber}
 use Rattle.cycle_rows.specs.declared.prepare.Step.{Step}
 use Rattle.cycle_rows.specs.declared.prepare.Steps.{Steps}
 
@@ -46,7 +47,7 @@ case_in table m = eqb (table / 2 ^ m % 2) 1
 
 -- each operand of a row has a cell, and so has its signal
 abbrev pub InCells : Row → Type 0
-InCells r = Each (λ a. (1 ≤ a) × (a ≤ 128)) r × EachSignal (λ s. (1 ≤ s) × (s ≤ 32)) r
+InCells r = Each IsRowNumber r × EachSignal IsSignalNumber r
 
 -- a step fills row k, whose row is r: its cell, those of its operands, and a table of eight cases in one byte
 pub record StepFor (step : Step) (k : ℕ) (r : Row) : Type 0 where

@@ -1,4 +1,4 @@
-use Prim.Native.Nat.{ℕ, suc, ◌+◌, ◌-◌, ◌<◌}
+use Prim.Native.Nat.{ℕ, suc, ◌+◌, ◌<◌}
 use mathlib.Core.Bool.{false}
 use mathlib.Core.Path.{◌≡◌, ap, ap₂, ◌∙◌}
 use native.Mathlib.Omega.{arith}
@@ -15,12 +15,6 @@ use Rattle.between_rounds.proofs.restart.Goals as goal
 pub loop-k-init : goal.loop-k-init
 loop-k-init c = handed_none _ _ _
 
-pub offset_bounds-form-k : goal.offset_bounds-form-k
-offset_bounds-form-k c = omega (arith, c.requires.most_rows)
-
-pub bounds-form-k : goal.bounds-form-k
-bounds-form-k c = omega (arith, c.requires.most_rows)
-
 pub operands_sure-operands-requires : goal.operands_sure-operands-requires
 operands_sure-operands-requires c = row_operands c.args.form c.requires c.loop-k.k (search rules)
 
@@ -31,9 +25,8 @@ loop-k-preserved c =
     let h : k < g.rows = search rules in
     let e : 32 + k ≡ 31 + suc k = omega arith in
     let left = ap (λ i. get_or c.loop-k.cells i false) e in
-    rw c.put.ensures.stored
-    (handed_more _ _ _ c.put-arg-1.given.0.1 (omega (arith, c.requires.most_rows)) _
-    (c.row_handed-start.ensures.answer ∙ ap₂ (handed (pattern_of (table_of g.places (suc k)))) c.operands_sure-operands.ensures.answer left)
+    (handed_more _ _ _ (search rules) (omega (arith, c.requires.most_rows)) _
+    (c.row_handed.ensures.answer ∙ ap₂ (handed (pattern_of (table_of g.places (suc k)))) c.operands_sure-operands.ensures.answer left)
     c.loop-k.invariant)
 
 pub returns : goal.returns

@@ -1,4 +1,4 @@
-use Prim.Native.Nat.{ℕ, suc, ◌+◌, ◌-◌, ◌<◌}
+use Prim.Native.Nat.{ℕ, suc, ◌+◌, ◌<◌}
 use mathlib.Core.Bool.{◌&&◌}
 use mathlib.Core.Path.{◌≡◌, ap, ap₂, ◌∙◌}
 use native.Mathlib.Omega.{arith}
@@ -16,12 +16,6 @@ use Rattle.between_rounds.proofs.survey.Goals as goal
 pub loop-k-init : goal.loop-k-init
 loop-k-init c = λ ok. survey_none c.args.form ok (row_cell c.args.behind.now) (row_cell c.args.cells.now) c.args.sure.now
 
-pub offset_bounds-form-at : goal.offset_bounds-form-at
-offset_bounds-form-at c = omega (arith, c.requires.most_rows)
-
-pub bounds-form-at : goal.bounds-form-at
-bounds-form-at c = omega (arith, c.requires.most_rows)
-
 pub operands_sure-requires : goal.operands_sure-requires
 operands_sure-requires c = row_operands c.args.form c.requires c.loop-k.k (search rules)
 
@@ -29,7 +23,7 @@ pub row_stays-requires : goal.row_stays-requires
 row_stays-requires c =
     let k : ℕ = c.loop-k.k in
     let h : k < c.args.form.rows = search rules in
-    (row_operands c.args.form c.requires k h, omega arith, omega (arith, c.requires.most_rows))
+    (row_operands c.args.form c.requires k h, (omega arith, omega (arith, c.requires.most_rows)))
 
 pub loop-k-preserved : goal.loop-k-preserved
 loop-k-preserved c =
@@ -39,8 +33,7 @@ loop-k-preserved c =
     let e : k + 1 ≡ suc k = omega arith in
     let r : Row = table_of g.places (suc k) in
     let stay = c.row_stays.ensures.answer ∙ ap (λ n. stays (same_in c.args.behind.now c.args.cells.now) n r (pattern_of r)) e in
-    rw c.put.ensures.stored
-    (survey_more g ok (row_cell c.args.behind.now) (row_cell c.args.cells.now) k c.loop-k.sure c.put-arg-1.given.0.1 (search rules) _
+    (survey_more g ok (row_cell c.args.behind.now) (row_cell c.args.cells.now) k c.loop-k.sure (search rules) (search rules) _
     (ap₂ ◌&&◌ c.operands_sure.ensures.answer stay) (c.loop-k.invariant ok))
 
 pub returns : goal.returns
