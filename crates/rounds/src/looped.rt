@@ -22,20 +22,16 @@ pub fn fill_looped(form: NormalForm, trace: Trace, start: u16) -> Looped
     ensures filled { Filled form trace result.lanes }
     ensures rounds { ByCycle form trace start result.rounds result.lanes }
 {
-    let rows = form.rows as usize;
     let steps = cycle_rows::prepare::prepare(form);
-    let order = steps.order;
-    let truth = steps.truth;
     let last = trace.cycles as usize;
     let first = start as usize;
-    let signals = trace.lanes;
     let mut digits = [false; 8192];
-    crate::spread::spread(signals, form.signals as usize, last, &mut digits);
+    crate::spread::spread(trace.lanes, form.signals as usize, last, &mut digits);
     // Nothing is sure yet, so every row starts; from there the loop's cycle is filled once, which comes behind the last.
     let mut sure = [false; 128];
     let mut cells = [false; 160];
     between_rounds::restart(form, &sure, &mut cells);
-    crate::round::fill_at(rows, &order, &truth, &digits, first, &mut cells);
+    crate::round::fill_at(&steps, &digits, first, &mut cells);
     let mut words = [0; 512];
     let mut rounds = 0;
     let mut done = false;
@@ -43,15 +39,11 @@ pub fn fill_looped(form: NormalForm, trace: Trace, start: u16) -> Looped
         between_rounds::restart(form, &sure, &mut cells);
         let behind = cells;
         words = [0; 512];
-        crate::round::go_back(
-            rows, &order, &truth, &digits, first, last, &mut cells, &mut words,
-        );
+        crate::round::go_back(&steps, &digits, first, last, &mut cells, &mut words);
         done = between_rounds::survey(form, &behind, &cells, &mut sure);
         rounds += 1;
     }
-    crate::round::go_back(
-        rows, &order, &truth, &digits, 0, first, &mut cells, &mut words,
-    );
+    crate::round::go_back(&steps, &digits, 0, first, &mut cells, &mut words);
     let lanes = crate::record::lanes_of(words);
     Looped { lanes, rounds }
 }

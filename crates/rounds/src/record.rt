@@ -22,13 +22,9 @@ pub fn record(rows: usize, cells: &[bool; 160], cycle: usize, words: &mut [u64; 
         → ((k : ℕ) → k < rows → columns cycle (suc k) ≡ row_cell cells.now (suc k))
         → RecordedFrom rows n cycle words.new columns }
 {
-    // As a slice: lending the array as one tells the proof how long it is.
-    let all: &mut [u64] = words;
     let first = cycle / 64 * 128;
-    let mut k = 0;
-    while k < rows {
-        all[first + k] = with_lowest(all[first + k], cells[32 + k]);
-        k += 1;
+    for k in 0..rows {
+        words[first + k] = with_lowest(words[first + k], cells[32 + k]);
     }
 }
 
@@ -38,12 +34,10 @@ pub fn lanes_of(words: [u64; 512]) -> [Lane; 128]
         → (k : ℕ) → k < rows → Shows n (lane_in result k) (λ c. columns c (suc k)) }
 {
     let mut lanes = [Lane { words: [0; 4] }; 128];
-    let mut k = 0;
-    while k < 128 {
+    for k in 0..128 {
         lanes[k] = Lane {
             words: [words[k], words[128 + k], words[256 + k], words[384 + k]],
         };
-        k += 1;
     }
     lanes
 }

@@ -12,12 +12,8 @@ fn spread_signal(lane: Lane, s: usize, cycles: usize, digits: &mut [bool; 8192])
     ensures others { (u c : ℕ) → u < 32 → (u ≡ s → ⊥)
         → get_or digits.new (32 * c + u) false ≡ get_or digits.old (32 * c + u) false }
 {
-    // As a slice: lending the array as one tells the proof how long it is.
-    let all: &mut [bool] = digits;
-    let mut c = 0;
-    while c < cycles {
-        all[32 * c + s] = lanes::lane::bit(lane, c);
-        c += 1;
+    for c in 0..cycles {
+        digits[32 * c + s] = lanes::lane::bit(lane, c);
     }
 }
 
@@ -26,9 +22,7 @@ pub fn spread(lanes: [Lane; 32], signals: usize, cycles: usize, digits: &mut [bo
     requires { (signals ≤ 32) × (cycles ≤ 256) }
     ensures spread { SpreadTo signals cycles lanes digits.new }
 {
-    let mut s = 0;
-    while s < signals {
+    for s in 0..signals {
         spread_signal(lanes[s], s, cycles, &mut *digits);
-        s += 1;
     }
 }

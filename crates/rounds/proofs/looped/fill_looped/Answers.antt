@@ -23,7 +23,7 @@ restart-requires c = c.requires.0
 pub fill_at-requires : goal.fill_at-requires
 fill_at-requires c =
     let h = loop_within c.args.trace c.args.start c.requires.1 c.requires.2 in
-    ((c.args.form, c.requires.0, refl, c.prepare-steps.ensures.steps), omega (arith, h, c.requires.1.most_cycles))
+    ((c.args.form, c.prepare-steps.ensures.steps), omega (arith, h, c.requires.1.most_cycles))
 
 pub loop-done-init : goal.loop-done-init
 loop-done-init c = λ t e spread ok h covers.
@@ -31,7 +31,7 @@ loop-done-init c = λ t e spread ok h covers.
     let cells : List Bool = c.fill_at.new.cells in
     loop_first c.args.form t start ok h covers c.spread.new.digits spread (replicate 160 false) c.restart.new.cells cells
     (replicate 128 false) (replicate 512 0) (λ k. replicate_at {A = Bool} 128 (k - 1) false) (λ k. replicate_at {A = Bool} 160 (31 + k) false)
-    c.restart.ensures.started (c.fill_at.ensures.filled c.args.form ok refl c.prepare-steps.ensures.steps)
+    c.restart.ensures.started (c.fill_at.ensures.filled c.args.form c.prepare-steps.ensures.steps)
 
 pub restart-requires-in-loop-done : goal.restart-requires-in-loop-done
 restart-requires-in-loop-done c = c.requires.0
@@ -39,7 +39,7 @@ restart-requires-in-loop-done c = c.requires.0
 pub go_back-requires : goal.go_back-requires
 go_back-requires c =
     let h = loop_within c.args.trace c.args.start c.requires.1 c.requires.2 in
-    ((c.args.form, c.requires.0, refl, c.prepare-steps.ensures.steps), omega (arith, h), c.requires.1.most_cycles)
+    ((c.args.form, c.prepare-steps.ensures.steps), omega (arith, h), c.requires.1.most_cycles)
 
 pub survey-done-requires : goal.survey-done-requires
 survey-done-requires c = c.requires.0
@@ -67,7 +67,7 @@ loop-done-preserved c = λ t e spread ok h covers.
     subst (λ b. Looping c.args.form t start ok h covers r c.loop-done.cells c.loop-done.words c.loop-done.sure b)
     (go_on c.loop-done.done c.loop-done-test.true-raw) (c.loop-done.invariant t e spread ok h covers) in
     let back : RoundBack c.args.form (given_from digits) n start n (λ i. row_cell behind) (row_cell cells) words =
-    c.go_back.ensures.gone c.args.form ok refl c.prepare-steps.ensures.steps n (λ i. row_cell behind) (omega arith) refl
+    c.go_back.ensures.gone c.args.form c.prepare-steps.ensures.steps n (λ i. row_cell behind) (omega arith) refl
     (nothing_recorded c.args.form.rows n 512 (λ i. row_cell behind)) in
     let back' = subst⁻¹ (λ m. RoundBack c.args.form (given_from digits) m start m (λ i. row_cell behind) (row_cell cells) words) e back in
     let after = loop_more c.args.form t start ok h covers digits spread r c.loop-done.cells behind cells c.loop-done.sure sure c.loop-done.words words done
@@ -84,12 +84,12 @@ loop-done-smaller c =
 pub go_back-requires-2 : goal.go_back-requires-2
 go_back-requires-2 c =
     let h = loop_within c.args.trace c.args.start c.requires.1 c.requires.2 in
-    ((c.args.form, c.requires.0, refl, c.prepare-steps.ensures.steps), omega arith, omega (arith, h, c.requires.1.most_cycles))
+    ((c.args.form, c.prepare-steps.ensures.steps), omega arith, omega (arith, h, c.requires.1.most_cycles))
 
 pub returns : goal.returns
 returns c = let start : ℕ = c.args.start in let n : ℕ = c.args.trace.cycles in let digits : List Bool = c.spread.new.digits in let left : List Bool = c.go_back-2.new.cells in let words : List ℕ = c.go_back-2.new.words in let h = loop_within c.args.trace start c.requires.1 c.requires.2 in let at : Looping c.args.form c.args.trace start c.requires.0 h c.requires.3 c.loop-done.rounds c.loop-done.cells c.loop-done.words c.loop-done.sure true =
     subst (λ b. Looping c.args.form c.args.trace start c.requires.0 h c.requires.3 c.loop-done.rounds c.loop-done.cells c.loop-done.words c.loop-done.sure b)
     (ended c.loop-done.done c.loop-done-test.false-raw) (c.loop-done.invariant c.args.trace refl c.spread.ensures.spread c.requires.0 h c.requires.3) in let both = loop_answered c.args.form c.args.trace start c.requires.0 h c.requires.3 digits c.spread.ensures.spread c.loop-done.rounds c.loop-done.cells left c.loop-done.sure c.loop-done.words words
     c.lanes_of-lanes.result at
-    (λ later f r. c.go_back-2.ensures.gone c.args.form c.requires.0 refl c.prepare-steps.ensures.steps n later (omega (arith, h)) f r)
+    (λ later f r. c.go_back-2.ensures.gone c.args.form c.prepare-steps.ensures.steps n later (omega (arith, h)) f r)
     (λ x r. c.lanes_of-lanes.ensures.lanes c.args.form.rows n x c.requires.0.most_rows r) c.requires.2 in record { filled = both.0; rounds = both.1 }

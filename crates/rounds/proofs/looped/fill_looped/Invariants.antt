@@ -13,4 +13,4 @@ invariant-loop-done l = (t : Trace) → t.cycles ≡ l.last → SpreadTo l.form.
     → (ok : InNormalForm l.form) (h : l.start < t.cycles) (covers : CoversIn l.form t (Loop l.start)) → Looping l.form t l.start ok h covers l.rounds l.cells l.words l.sure l.done
 
 abbrev pub decreases-loop-done : goal.decreases-loop-done
-decreases-loop-done l = l.rows - l.rounds
+decreases-loop-done l = l.form.rows - l.rounds

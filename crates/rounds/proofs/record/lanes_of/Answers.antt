@@ -1,4 +1,3 @@
-use Prim.Native.Nat.{◌-◌}
 use Rattle.rounds.proofs.Words.{lanes_start, lanes_more, lanes_end}
 use borrow.Author.Rules.{rules}
 use Rattle.rounds.proofs.record.lanes_of.Goals as goal

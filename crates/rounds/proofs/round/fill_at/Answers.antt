@@ -4,7 +4,7 @@ use Rattle.rounds.proofs.round.fill_at.Goals as goal
 
 pub returns : goal.returns
 returns c = record {
-  filled = λ g ok e s.
-      cycle_alike g ok _ _ (record { signals = λ i a b. c.put_signals.ensures.put _ (omega arith) }) _ _
-      (λ k h. c.put_signals.ensures.rows _ (omega arith)) _ (c.fill_cycle.ensures.filled g ok e s).rows;
+  filled = λ g p.
+      cycle_alike g p.form _ _ (record { signals = λ i a b. c.put_signals.ensures.put _ (omega arith) }) _ _
+      (λ k h. c.put_signals.ensures.rows _ (omega arith)) _ (c.fill_cycle.ensures.filled g p).rows;
 }
