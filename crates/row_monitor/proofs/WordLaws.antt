@@ -1,5 +1,5 @@
 -- Words of 64 cycles: negation, one bit, any bit, and the words of a monitor's moves. Assumes nothing.
-use Prim.Native.Nat.{ℕ, zero, suc, ◌+◌, ◌-◌, ◌*◌, ◌/◌, ◌%◌, ◌≤◌}
+use Prim.Native.Nat.{ℕ, zero, suc, ◌+◌, ◌-◌, ◌*◌, ◌/◌, ◌%◌, ◌^◌, ◌≤◌, ◌<◌}
 use mathlib.Core.Path.{◌≡◌, refl, sym, ap, ap₂, ◌∙◌}
 use mathlib.Core.Logic.{◌⊎◌, inl, inr}
 use mathlib.Core.Bool.{Bool, true, false, not, ◌&&◌, ◌||◌}
@@ -9,6 +9,7 @@ use lib.Bits.{bit_and, bit_or}
 use lib.ListN.{get_or}
 use native.Mathlib.Decide.{ℕ_discrete}
 use borrow.Author.Tests.{eq-eqb, ne_eqb, eqb-true, leb-true}
+use Rattle.std.proofs.lemmas.Nat.{and_mask}
 use Rattle.tables.specs.Choice.{pick}
 use Rattle.tables.specs.Bit.{bit_at, word_from}
 use Rattle.tables.specs.declared.row.Row.{Row}
@@ -61,10 +62,11 @@ pub word_any : (w b : ℕ) (f : ℕ → Bool) → w ≡ word_from 64 b f → not
 word_any w b f e = rw e (some_on 64 b f)
 
 -- a word of the lane, by the lane's bits
-pub word_of_lane : (l : Lane) (q : ℕ) → bit_and (get_or l.words q 0) every ≡ word_from 64 (q * 64) (bit_at l)
+pub word_of_lane : (l : Lane) (q : ℕ) → get_or l.words q 0 < 2 ^ 64 → get_or l.words q 0 ≡ word_from 64 (q * 64) (bit_at l)
 unfolding bit_at
-word_of_lane l q =
-    ap (bit_and (get_or l.words q 0)) (word_all (q * 64)) ∙ word_masked 64 (q * 64) (get_or l.words q 0) (λ i. true)
+word_of_lane l q h =
+    let whole : get_or l.words q 0 % 2 ^ 64 ≡ get_or l.words q 0 = omega arith in
+    sym (and_mask (get_or l.words q 0) 64 ∙ whole) ∙ ap (bit_and (get_or l.words q 0)) (word_all (q * 64)) ∙ word_masked 64 (q * 64) (get_or l.words q 0) (λ i. true)
     ∙ word_ext 64 (q * 64) _ _ (λ i lo hi.
     let p : i - q * 64 ≡ i % 64 = omega arith in
     let r : q ≡ i / 64 = omega arith in

@@ -1,13 +1,11 @@
 // The monitor of one row in 64 cycles at once: whether it fails in one of them, and whether it is pending behind the last.
-ghost use Rattle.std.specs.Prelude.{◌≡◌, Bool, not, ℕ, ◌*◌, ◌<◌};
+ghost use Rattle.std.specs.Prelude.{◌≡◌, Bool, ℕ, ◌*◌, ◌<◌};
 ghost use Rattle.tables.specs.Bit.{bit_at, word_from};
 ghost use Rattle.row_monitor.specs.Word.{MovesOf, some, word_report};
 
 use crate::row::Reads;
 use tables::row::{BinaryKind, ConstantKind, Row, SignalKind, UnaryKind};
 use tables::trace::Lane;
-
-const EVERY: u64 = 0xffff_ffff_ffff_ffff;
 
 // What a row's monitor does in 64 cycles, a bit for each. Where the row is active: it fails, it is pending. Where it was pending one
 // cycle earlier: it fails (drops), it stays pending (holds).
@@ -24,12 +22,6 @@ pub struct Moves {
 pub struct WordReport {
     pub clean: bool,
     pub pending: bool,
-}
-
-fn negated(word: u64) -> u64
-    ensures word { (b : ℕ) (f : ℕ → Bool) → word ≡ word_from 64 b f → result ≡ word_from 64 b (λ i. not (f i)) }
-{
-    EVERY - word
 }
 
 // Some bit is on.
@@ -51,31 +43,32 @@ fn word_of(lane: Lane, at: usize) -> u64
     requires { at < 4 }
     ensures answer { result ≡ word_from 64 (at * 64) (bit_at lane) }
 {
-    let words = lane.words;
-    words[at] & EVERY
+    lane.words[at]
 }
 
-// A monitor that reads its activator alone.
-fn checks(fails: u64) -> Moves
-    ensures answer { result ≡ record { fails = fails; waits = 0; drops = 0; holds = 0 } }
-{
-    Moves {
-        fails,
-        waits: 0,
-        drops: 0,
-        holds: 0,
+impl Moves {
+    // A monitor that reads its activator alone.
+    fn checks(fails: u64) -> Moves
+        ensures answer { result ≡ record { fails = fails; waits = 0; drops = 0; holds = 0 } }
+    {
+        Moves {
+            fails,
+            waits: 0,
+            drops: 0,
+            holds: 0,
+        }
     }
-}
 
-// A monitor for which an activator and a pending are the same.
-fn goes(waits: u64, fails: u64) -> Moves
-    ensures answer { result ≡ record { fails = fails; waits = waits; drops = fails; holds = waits } }
-{
-    Moves {
-        fails,
-        waits,
-        drops: fails,
-        holds: waits,
+    // A monitor for which an activator and a pending are the same.
+    fn goes(waits: u64, fails: u64) -> Moves
+        ensures answer { result ≡ record { fails = fails; waits = waits; drops = fails; holds = waits } }
+    {
+        Moves {
+            fails,
+            waits,
+            drops: fails,
+            holds: waits,
+        }
     }
 }
 
@@ -83,15 +76,15 @@ fn unary_moves(kind: UnaryKind, a: u64) -> Moves
     ensures moves { (n k : ℕ) (f g : ℕ → Bool) → a ≡ word_from 64 k f → MovesOf (Row.Unary kind n) f g k result }
 {
     match kind {
-        UnaryKind::Not => checks(0),
+        UnaryKind::Not => Moves::checks(0),
         UnaryKind::Next => Moves {
             fails: 0,
-            waits: EVERY,
-            drops: negated(a),
+            waits: u64::MAX,
+            drops: !a,
             holds: 0,
         },
-        UnaryKind::Always => goes(EVERY, negated(a)),
-        UnaryKind::Ever => goes(negated(a), 0),
+        UnaryKind::Always => Moves::goes(u64::MAX, !a),
+        UnaryKind::Ever => Moves::goes(!a, 0),
     }
 }
 
@@ -99,15 +92,11 @@ fn binary_moves(kind: BinaryKind, a: u64, b: u64) -> Moves
     ensures moves { (n m k : ℕ) (f g : ℕ → Bool) → a ≡ word_from 64 k f → b ≡ word_from 64 k g
         → MovesOf (Row.Binary kind n m) f g k result }
 {
-    let a_off = negated(a);
-    let b_off = negated(b);
     match kind {
-        BinaryKind::And => checks(negated(a & b)),
-        BinaryKind::Or => checks(negated(a | b)),
-        BinaryKind::Weak => goes(b_off, b_off & a_off),
-        BinaryKind::Until => goes(b_off, b_off & a_off),
-        BinaryKind::Release => goes(a_off, b_off),
-        BinaryKind::Srelease => goes(a_off, b_off),
+        BinaryKind::And => Moves::checks(!(a & b)),
+        BinaryKind::Or => Moves::checks(!(a | b)),
+        BinaryKind::Weak | BinaryKind::Until => Moves::goes(!b, !b & !a),
+        BinaryKind::Release | BinaryKind::Srelease => Moves::goes(!a, !b),
     }
 }
 
@@ -116,14 +105,10 @@ fn row_moves(row: Row, a: u64, b: u64) -> Moves
     ensures moves { (k : ℕ) (f g : ℕ → Bool) → a ≡ word_from 64 k f → b ≡ word_from 64 k g → MovesOf row f g k result }
 {
     match row {
-        Row::Constant(kind) => match kind {
-            ConstantKind::True => checks(0),
-            ConstantKind::False => checks(EVERY),
-        },
-        Row::Signal(kind, _) => match kind {
-            SignalKind::Sig => checks(negated(a)),
-            SignalKind::Nsig => checks(a),
-        },
+        Row::Constant(ConstantKind::True) => Moves::checks(0),
+        Row::Constant(ConstantKind::False) => Moves::checks(u64::MAX),
+        Row::Signal(SignalKind::Sig, _) => Moves::checks(!a),
+        Row::Signal(SignalKind::Nsig, _) => Moves::checks(a),
         Row::Unary(kind, _) => unary_moves(kind, a),
         Row::Binary(kind, _, _) => binary_moves(kind, a, b),
     }
