@@ -1,17 +1,14 @@
 -- The finding on tables in range, computed: the check's own way, as definitions. The cases use it. Assumes nothing.
-use Prim.Native.Nat.{ℕ, zero, suc, ◌+◌, ◌-◌, ◌<◌}
+use Prim.Native.Nat.{ℕ, zero, suc, ◌+◌}
 use mathlib.Core.Path.{◌≡◌, refl, subst}
 use mathlib.Core.Bool.{Bool, true, false}
-use mathlib.Core.List.{List, []}
 use native.Mathlib.Omega.{arith}
-use lib.ListN.{get_or}
+use Rattle.std.proofs.Common.{Result, Ok, Err}
 use Rattle.tables.specs.Choice.{pick}
 use Rattle.tables.specs.Bit.{bit_at}
 use Rattle.tables.specs.declared.row.Row.{Row}
-use Rattle.tables.specs.declared.row.Row.TheVariants.{Constant, Signal, Unary, Binary}
 use Rattle.tables.specs.declared.row.NormalForm.{NormalForm}
 use Rattle.tables.specs.declared.trace.Activation.{Activation}
-use Rattle.tables.specs.declared.trace.Lane.{Lane}
 use Rattle.tables.specs.declared.trace.Trace.{Trace}
 use Rattle.take_file.specs.Valid.{InRange}
 use Rattle.meaning.specs.Satisfaction.{table_of}
@@ -25,11 +22,11 @@ use Rattle.row_monitor.specs.declared.row.Reads.{Reads}
 use Rattle.row_monitor.specs.declared.row.RowReport.{RowReport}
 use Rattle.checking.specs.declared.survey.Survey.{Survey}
 use Rattle.row_monitor.specs.RowReport.{RowReportOf}
-use Rattle.checking.specs.Survey.{noted, SurveyTo}
+use Rattle.checking.specs.Survey.{noted, reads_at, SurveyTo}
 use Rattle.checking.specs.Finding.{FindingOf}
 use Rattle.checking.specs.Conclusion.{course_of, concluded}
 use Rattle.row_monitor.proofs.ReportLoop.{ReportTo, report_start, report_fails, report_goes, report_ends}
-use Rattle.checking.proofs.SurveyLoop.{ReadsOf, reads_of, survey_start, survey_next}
+use Rattle.checking.proofs.SurveyLoop.{survey_start, survey_next}
 use Rattle.checking.proofs.Findings.{root_only, finding_by}
 use Rattle.checking.proofs.Conclusions.{concluded_finding}
 
@@ -37,17 +34,17 @@ use Rattle.checking.proofs.Conclusions.{concluded_finding}
 
 module _ (row : Row) (reads : Reads) (course : Course) where
   abbrev pub Reported : Type 0
-  Reported = (report : RowReport) × RowReportOf row reads course report
+  Reported = (report : Result RowReport ℕ) × RowReportOf row reads course report
 
   unfoldable pub report_from : (left i c : ℕ) (report : RowReport) → i + left ≡ course.end → ReportTo row reads course i c report → Reported
-  report_from zero i c report e to = (report, report_ends row reads course to (omega arith))
+  report_from zero i c report e to = (Ok report, report_ends row reads course to (omega arith))
   report_from (suc left) i c report e to = by said.failed refl (λ f. report_from left (i + 1) _ _ (omega arith) (report_goes row reads course to (omega arith) {said = said} refl f refl))
     where
       said : Output
       said = row_monitor row (bit_at reads.first c) (bit_at reads.second c) (record { active = bit_at reads.active c; pending = report.pending })
 
       by : (b : Bool) → said.failed ≡ b → (said.failed ≡ false → Reported) → Reported
-      by true f goes = (_, report_fails row reads course to (omega arith) {said = said} refl f)
+      by true f goes = (Err i, report_fails row reads course to (omega arith) {said = said} refl f)
       by false f goes = goes f
 
   unfoldable pub reported : Reported
@@ -55,22 +52,7 @@ module _ (row : Row) (reads : Reads) (course : Course) where
 
 -- ---- all rows
 
-abbrev pub lane_or : List Lane → ℕ → Lane
-lane_or lanes k = get_or lanes k (record { words = [] })
-
 module _ (g : NormalForm) (t : Trace) (a : Activation) (course : Course) where
-  abbrev pub reads_for : Row → ℕ → Reads
-  reads_for (Constant c) k = record { active = lane_or a.lanes k; first = lane_or [] 0; second = lane_or [] 0 }
-  reads_for (Signal c s) k = record { active = lane_or a.lanes k; first = lane_or t.lanes (s - 1); second = lane_or [] 0 }
-  reads_for (Unary c b) k = record { active = lane_or a.lanes k; first = lane_or a.lanes (b - 1); second = lane_or [] 0 }
-  reads_for (Binary c b d) k = record { active = lane_or a.lanes k; first = lane_or a.lanes (b - 1); second = lane_or a.lanes (d - 1) }
-
-  pub reads_for_lem : (r : Row) (k : ℕ) → ReadsOf t a r (suc k) (reads_for r k)
-  reads_for_lem (Constant c) k = reads_of t a refl refl k refl tt
-  reads_for_lem (Signal c s) k = reads_of t a refl refl k refl refl
-  reads_for_lem (Unary c b) k = reads_of t a refl refl k refl refl
-  reads_for_lem (Binary c b d) k = reads_of t a refl refl k refl (refl, refl)
-
   abbrev pub Surveyed : Type 0
   Surveyed = (s : Survey) × SurveyTo g t a course g.rows s
 
@@ -78,8 +60,8 @@ module _ (g : NormalForm) (t : Trace) (a : Activation) (course : Course) where
   survey_from zero m s e to = let q : m ≡ g.rows = omega arith in (s, subst (λ n. SurveyTo g t a course n s) q to)
   survey_from (suc left) m s e to =
       let r : Row = table_of g.places (suc m) in
-      let x = reported r (reads_for r m) course in
-      survey_from left (suc m) (noted s (m + 1) x.0) (omega arith) (survey_next g t a course to (reads_for_lem r m) x.1)
+      let x = reported r (reads_at t a r (suc m)) course in
+      survey_from left (suc m) (noted s (suc m) x.0) (omega arith) (survey_next g t a course to x.0 x.1)
 
   unfoldable pub surveyed : Surveyed
   surveyed = survey_from g.rows 0 _ (omega arith) (survey_start g t a course)
@@ -87,12 +69,12 @@ module _ (g : NormalForm) (t : Trace) (a : Activation) (course : Course) where
 -- ---- the finding
 
 unfoldable pub computed_finding : NormalForm → Trace → Activation → Finding
-computed_finding g t a = pick (activator_at a 0 g.rows) (concluded t.ending (course_of t.cycles t.ending).end (surveyed g t a (course_of t.cycles t.ending)).0) Root
+computed_finding g t a = pick (activator_at a 0 g.rows) (concluded t.ending (surveyed g t a (course_of t.cycles t.ending)).0) Root
 
 pub finding_computed : (g : NormalForm) (t : Trace) (a : Activation) → InRange t → FindingOf g t a (computed_finding g t a)
 unfolding computed_finding
 finding_computed g t a range = by (activator_at a 0 g.rows) refl
   where
-    by : (b : Bool) → activator_at a 0 g.rows ≡ b → FindingOf g t a (pick b (concluded t.ending (course_of t.cycles t.ending).end (surveyed g t a (course_of t.cycles t.ending)).0) Root)
+    by : (b : Bool) → activator_at a 0 g.rows ≡ b → FindingOf g t a (pick b (concluded t.ending (surveyed g t a (course_of t.cycles t.ending)).0) Root)
     by true set = let s = surveyed g t a (course_of t.cycles t.ending) in concluded_finding g t a range.some_cycles set t.ending refl range.loop s.0 s.1
     by false unset = finding_by g t a t.ending refl Root unset (root_only g t a t.ending unset)

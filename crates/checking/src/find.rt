@@ -32,25 +32,15 @@ fn course_of(cycles: u16, ending: Ending) -> Course
     }
 }
 
-fn conclude(survey: Survey, end: u16, ending: Ending) -> Finding
-    ensures answer { result ≡ concluded ending end survey }
+fn conclude(survey: Survey, ending: Ending) -> Finding
+    ensures answer { result ≡ concluded ending survey }
 {
-    if survey.cycle < end {
-        return Finding::Failed(survey.failed, survey.cycle);
+    if let Some(failure) = survey.failure {
+        return Finding::Failed(failure.row, failure.cycle);
     }
     match ending {
-        Ending::Open => {
-            if survey.pending == 0 {
-                return Finding::Passes;
-            }
-            Finding::Pending(survey.pending)
-        }
-        Ending::Loop(_) => {
-            if survey.starved == 0 {
-                return Finding::Passes;
-            }
-            Finding::Starved(survey.starved)
-        }
+        Ending::Open => survey.pending.map_or(Finding::Passes, Finding::Pending),
+        Ending::Loop(_) => survey.starved.map_or(Finding::Passes, Finding::Starved),
     }
 }
 
@@ -58,14 +48,11 @@ pub fn find(form: NormalForm, trace: Trace, sheet: Activation) -> Finding
     requires { InNormalForm form × InRange trace }
     ensures finding { FindingOf form trace sheet result }
 {
-    let active = sheet.lanes;
     let root = form.rows as usize - 1;
-    let set = lanes::lane::bit(active[root], 0);
-    if !set {
+    if !lanes::lane::bit(sheet.lanes[root], 0) {
         return Finding::Root;
     }
-    let ending = trace.ending;
-    let course = course_of(trace.cycles, ending);
+    let course = course_of(trace.cycles, trace.ending);
     let seen = survey::survey_rows(form, trace, sheet, course);
-    conclude(seen, course.end, ending)
+    conclude(seen, trace.ending)
 }

@@ -1,54 +1,74 @@
 // All rows' monitors along the take, one after the other.
-ghost use Rattle.std.specs.Prelude.{◌≡◌, ◌&&◌, eqb};
-ghost use Rattle.tables.specs.Choice.{pick};
+ghost use Rattle.std.specs.Prelude.{◌≡◌, suc, ◌<◌, ◌≤◌};
+ghost use Rattle.meaning.specs.Rows.{Each, EachSignal};
 ghost use Rattle.normal_form.specs.Form.{InNormalForm};
 ghost use Rattle.row_monitor.specs.RowReport.{CourseOf};
-ghost use Rattle.checking.specs.Survey.{SurveyTo, noted};
+ghost use Rattle.checking.specs.Survey.{SurveyTo, earlier as earlierOf, noted, reads_at};
 
 use row_monitor::row;
 use row_monitor::row::{Course, Reads, RowReport};
 use tables::row::{NormalForm, Row};
 use tables::trace::{Activation, Trace};
 
-// The earliest cycle in which a monitor fails, or the end, and the lowest row that fails there. Where none fails: the lowest row
-// without an accept that counts, and the lowest row that is pending after the last cycle. Rows count from 1; 0 is none.
+// Rows count from 1.
+#[derive(Clone, Copy)]
+pub struct Failure {
+    pub row: u8,
+    pub cycle: u16,
+}
+
+// The earliest failure, in the lowest row that fails in its cycle. Where none fails: the lowest row without an accept that counts, and
+// the lowest row that is pending after the last cycle.
 #[derive(Clone, Copy)]
 pub struct Survey {
-    pub cycle: u16,
-    pub failed: u8,
-    pub starved: u8,
-    pub pending: u8,
+    pub failure: Option<Failure>,
+    pub starved: Option<u8>,
+    pub pending: Option<u8>,
 }
 
-// The first row that is marked.
-fn first_marked(first: u8, marked: bool, number: u8) -> u8
-    ensures answer { result ≡ pick (marked && eqb first 0) number first }
+// The earlier failure; of two in one cycle, the one that was noted first.
+fn earlier(before: Option<Failure>, failure: Failure) -> Failure
+    ensures answer { result ≡ earlierOf before failure }
 {
-    if marked & (first == 0) {
-        return number;
+    match before {
+        Some(first) if first.cycle <= failure.cycle => first,
+        _ => failure,
     }
-    first
 }
 
-// One row more.
-fn note(survey: Survey, number: u8, report: RowReport) -> Survey
-    ensures answer { result ≡ noted survey number report }
-{
-    let starved = first_marked(survey.starved, !report.accepted, number);
-    let pending = first_marked(survey.pending, report.pending, number);
-    if report.failed < survey.cycle {
-        return Survey {
-            cycle: report.failed,
-            failed: number,
-            starved,
-            pending,
-        };
+impl Survey {
+    // One row more.
+    fn note(&mut self, row: u8, report: Result<RowReport, u16>)
+        ensures answer { self.new ≡ noted self.old row report }
+    {
+        match report {
+            Ok(report) => {
+                self.starved = self.starved.or((!report.accepted).then_some(row));
+                self.pending = self.pending.or(report.pending.then_some(row));
+            }
+            Err(cycle) => self.failure = Some(earlier(self.failure, Failure { row, cycle })),
+        }
     }
-    Survey {
-        cycle: survey.cycle,
-        failed: survey.failed,
-        starved,
-        pending,
+}
+
+// What the monitor of the row in place k reads.
+fn reads_of(row: Row, k: usize, trace: &Trace, sheet: &Activation) -> Reads
+    requires place { k < 128 }
+    requires operands { Each (λ a. (1 ≤ a) × (a ≤ 128)) row }
+    requires signals { EachSignal (λ s. (1 ≤ s) × (s ≤ 32)) row }
+    ensures answer { result ≡ reads_at trace.now sheet.now row (suc k) }
+{
+    let none = lanes::lane::none();
+    let (first, second) = match row {
+        Row::Constant(_) => (none, none),
+        Row::Signal(_, s) => (trace.lanes[s as usize - 1], none),
+        Row::Unary(_, a) => (sheet.lanes[a as usize - 1], none),
+        Row::Binary(_, a, b) => (sheet.lanes[a as usize - 1], sheet.lanes[b as usize - 1]),
+    };
+    Reads {
+        active: sheet.lanes[k],
+        first,
+        second,
     }
 }
 
@@ -57,47 +77,16 @@ pub fn survey_rows(form: NormalForm, trace: Trace, sheet: Activation, course: Co
     requires { InNormalForm form × CourseOf course }
     ensures survey { SurveyTo form trace sheet course form.rows result }
 {
-    let signals = trace.lanes;
-    let active = sheet.lanes;
-    let rows = form.rows as usize;
-    let none = lanes::lane::none();
     let mut survey = Survey {
-        cycle: course.end,
-        failed: 0,
-        starved: 0,
-        pending: 0,
+        failure: None,
+        starved: None,
+        pending: None,
     };
-    let mut k = 0;
-    while k < rows {
-        let place = form.places[k];
-        let row = place.row;
-        let shape = place.row;
-        let own = active[k];
-        let reads = match shape {
-            Row::Constant(_) => Reads {
-                active: own,
-                first: none,
-                second: none,
-            },
-            Row::Signal(_, s) => Reads {
-                active: own,
-                first: signals[s as usize - 1],
-                second: none,
-            },
-            Row::Unary(_, a) => Reads {
-                active: own,
-                first: active[a as usize - 1],
-                second: none,
-            },
-            Row::Binary(_, a, b) => Reads {
-                active: own,
-                first: active[a as usize - 1],
-                second: active[b as usize - 1],
-            },
-        };
+    for k in 0..form.rows as usize {
+        let row = form.places[k].row;
+        let reads = reads_of(row, k, &trace, &sheet);
         let report = row::monitor_row(row, reads, course);
-        survey = note(survey, k as u8 + 1, report);
-        k += 1;
+        survey.note(k as u8 + 1, report);
     }
     survey
 }

@@ -19,7 +19,7 @@ use Rattle.monitors.specs.Monitor.{row_monitor}
 use Rattle.row_monitor.specs.declared.row.Course.{Course}
 use Rattle.row_monitor.specs.declared.row.Reads.{Reads}
 use Rattle.row_monitor.specs.declared.row.RowReport.{RowReport}
-use Rattle.row_monitor.specs.RowReport.{row_pending, CourseOf, AcceptedTo, course_output, course_pending, RowReportOf}
+use Rattle.row_monitor.specs.RowReport.{row_pending, CourseOf, AcceptedTo, course_output, course_pending, CleanTo, FailsAt, GoesThrough}
 
 pub or_cases : (x y : Bool) → (x || y) ≡ true → (x ≡ true) ⊎ (y ≡ true)
 or_cases true y e = inl refl
@@ -42,17 +42,15 @@ module _ (row : Row) (reads : Reads) (course : Course) where
   pub record ReportTo (i c : ℕ) (report : RowReport) : Type 0 where
     pub within : i ≤ course.end
     pub at : c ≡ position course.cycles course.start i
-    pub unfailed : report.failed ≡ course.end
-    pub clean : (j : ℕ) → j < i → (course_output row reads course j).failed ≡ false
+    pub clean : CleanTo row reads course i
     pub pending : report.pending ≡ course_pending row reads course i
     pub accepted : AcceptedTo row reads course i report.accepted
 
-  pub report_start : ReportTo 0 0 (record { failed = course.end; pending = false; accepted = false })
+  pub report_start : ReportTo 0 0 (record { pending = false; accepted = false })
   unfolding position row_pending
   report_start = record {
     within = omega arith;
     at = refl;
-    unfailed = refl;
     clean = λ j h. absurd (omega arith);
     pending = refl;
     accepted = record { seen = λ e. absurd (true≢false (sym e)); unseen = λ e j a b. absurd (omega arith) };
@@ -67,22 +65,15 @@ module _ (row : Row) (reads : Reads) (course : Course) where
     here : said ≡ course_output row reads course i
     here = e ∙ rw (r.at, r.pending)
 
-    pub report_fails : said.failed ≡ true → RowReportOf row reads course (record { failed = i; pending = report.pending; accepted = report.accepted })
-    report_fails f = record {
-      within = omega arith;
-      clean = r.clean;
-      fails = λ l. sym (ap (λ (x : Output). x.failed) here) ∙ f;
-      ends = λ q. absurd (omega arith);
-      accepts = λ q. absurd (omega arith);
-    }
+    pub report_fails : said.failed ≡ true → FailsAt row reads course i
+    report_fails f = record { within = h; clean = r.clean; fails = sym (ap (λ (x : Output). x.failed) here) ∙ f }
 
     pub report_goes : {c' : ℕ} → said.failed ≡ false → c' ≡ pick (ltb (suc c) course.cycles) (suc c) course.start
-        → ReportTo (i + 1) c' (record { failed = report.failed; pending = said.pending; accepted = report.accepted || (said.accept && leb course.from i) })
+        → ReportTo (i + 1) c' (record { pending = said.pending; accepted = report.accepted || (said.accept && leb course.from i) })
     unfolding position row_pending
     report_goes {c'} f next = record {
       within = omega arith;
       at = next ∙ rw (r.at, add-one i);
-      unfailed = r.unfailed;
       clean = λ j l. clean j (eq-or-lt_of_le (below j l));
       pending = ap (λ (x : Output). x.pending) here ∙ ap (course_pending row reads course) (sym (add-one i));
       accepted = record { seen = seen; unseen = λ q j a b. unseen q j a (eq-or-lt_of_le (below j b)) };
@@ -112,13 +103,11 @@ module _ (row : Row) (reads : Reads) (course : Course) where
         unseen q j a (inl m) = subst⁻¹ (λ x. (course_output row reads course x).accept ≡ false) m (sym accept ∙ and_one said.accept (leb course.from i) (or_none report.accepted _ q).1 (le-leb course.from i (omega arith)))
         unseen q j a (inr l) = r.accepted.unseen (or_none report.accepted _ q).0 j a l
 
-  pub report_ends : {i c : ℕ} {report : RowReport} → ReportTo i c report → course.end ≤ i → RowReportOf row reads course report
+  pub report_ends : {i c : ℕ} {report : RowReport} → ReportTo i c report → course.end ≤ i → GoesThrough row reads course report
   report_ends {i} {c} {report} r l =
       let e : i ≡ course.end = omega (arith, r.within) in
       record {
-        within = omega (arith, r.unfailed);
-        clean = λ j h. r.clean j (omega (arith, r.unfailed));
-        fails = λ h. absurd (omega (arith, r.unfailed));
-        ends = λ q. r.pending ∙ ap (course_pending row reads course) e;
-        accepts = λ q. subst (λ m. AcceptedTo row reads course m report.accepted) e r.accepted;
+        clean = λ j h. r.clean j (omega arith);
+        ends = r.pending ∙ ap (course_pending row reads course) e;
+        accepts = subst (λ m. AcceptedTo row reads course m report.accepted) e r.accepted;
       }

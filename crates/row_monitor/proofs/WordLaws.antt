@@ -1,14 +1,13 @@
 -- Words of 64 cycles: negation, one bit, any bit, and the words of a monitor's moves. Assumes nothing.
-use Prim.Native.Nat.{ℕ, zero, suc, ◌+◌, ◌-◌, ◌*◌, ◌/◌, ◌%◌, ◌^◌, ◌≤◌, ◌<◌}
+use Prim.Native.Nat.{ℕ, zero, suc, ◌+◌, ◌-◌, ◌*◌, ◌/◌, ◌%◌, ◌^◌, ◌<◌}
 use mathlib.Core.Path.{◌≡◌, refl, sym, ap, ap₂, ◌∙◌}
-use mathlib.Core.Logic.{◌⊎◌, inl, inr}
 use mathlib.Core.Bool.{Bool, true, false, not, ◌&&◌, ◌||◌}
 use native.Mathlib.Omega.{arith}
-use lib.Dec.{leb, eqb}
+use lib.Dec.{eqb}
 use lib.Bits.{bit_and, bit_or}
 use lib.ListN.{get_or}
 use native.Mathlib.Decide.{ℕ_discrete}
-use borrow.Author.Tests.{eq-eqb, ne_eqb, eqb-true, leb-true}
+use borrow.Author.Tests.{eq-eqb, ne_eqb}
 use Rattle.std.proofs.lemmas.Nat.{and_mask}
 use Rattle.tables.specs.Choice.{pick}
 use Rattle.tables.specs.Bit.{bit_at, word_from}
@@ -18,10 +17,8 @@ use Rattle.tables.proofs.Bits.{word_ext}
 use Rattle.lanes.proofs.Words.{word_odd, word_and, word_or, word_every, word_without}
 use Rattle.lanes.proofs.Masks.{word_bit, word_masked}
 use Rattle.meaning.specs.Approximant.{approximant}
-use Rattle.row_monitor.specs.declared.row.Course.{Course}
 use Rattle.row_monitor.specs.declared.word.Moves.{Moves}
-use Rattle.row_monitor.specs.Word.{some, when_active, when_pending, MovesOf, dropped, held, failing, staying, WholeWord}
-use Rattle.row_monitor.proofs.ReportLoop.{or_cases, and_both}
+use Rattle.row_monitor.specs.Word.{some, when_active, when_pending, MovesOf, dropped, held, failing, staying}
 
 -- every bit
 abbrev every : ℕ
@@ -94,25 +91,6 @@ module _ {row : Row} {f g : ℕ → Bool} {b : ℕ} where
       → waits ≡ word_from 64 b (λ i. (when_pending row (f i) (g i)).pending)
       → MovesOf row f g b m
   moves_go e p q r s = rw e (record { fails = p; waits = q; drops = r; holds = s })
-
--- ---- the next 64 cycles are a word
-
-pub whole_word : (c i : ℕ) (course : Course)
-    → (((eqb (c % 64) 0 && leb (c + 64) course.cycles) && leb (i + 64) course.end) && (leb (i + 64) course.from || leb course.from i)) ≡ true → WholeWord c i course
-whole_word c i course h =
-    let p = and_both _ _ h in
-    let q = and_both _ _ p.0 in
-    let r = and_both _ _ q.0 in
-    record {
-      aligned = eqb-true (c % 64) 0 r.0;
-      recorded = leb-true (c + 64) course.cycles r.1;
-      within = leb-true (i + 64) course.end q.1;
-      counting = by (or_cases (leb (i + 64) course.from) (leb course.from i) p.1);
-    }
-  where
-    by : (leb (i + 64) course.from ≡ true) ⊎ (leb course.from i ≡ true) → (i + 64 ≤ course.from) ⊎ (course.from ≤ i)
-    by (inl x) = inl (leb-true (i + 64) course.from x)
-    by (inr x) = inr (leb-true course.from i x)
 
 -- ---- the words of a whole report
 

@@ -7,6 +7,8 @@ use native.Mathlib.Nat.{eq-or-lt_of_le}
 use native.Mathlib.Omega.{arith}
 use lib.Dec.{ltb, leb}
 use borrow.Author.Tests.{not-true, leb-true, leb-false}
+use Rattle.std.proofs.Common.{Some}
+use Rattle.std.specs.Bool.{then_some}
 use Rattle.tables.specs.Choice.{pick}
 use Rattle.tables.specs.Bit.{bit_at}
 use Rattle.tables.specs.declared.row.Row.{Row}
@@ -54,6 +56,10 @@ stays_on true true false h false x = refl
 stays_on true false false h false x = refl
 stays_on false true w h false x = refl
 stays_on false false w h false x = refl
+
+some_given : (b : Bool) {x y : Bool} → then_some b x ≡ Some y → (b ≡ true) × (x ≡ y)
+some_given true e = (refl, cc)
+some_given false e = cc
 
 module _ (row : Row) (reads : Reads) (course : Course) where
   abbrev active : ℕ → Bool
@@ -143,17 +149,15 @@ module _ (row : Row) (reads : Reads) (course : Course) where
 
   -- ---- the word's cycles are gone through
 
-  module _ {i c : ℕ} {report : RowReport} (r : ReportTo row reads course i c report) (w : WholeWord c i course) (ok : (word_report row reads c report.pending).clean ≡ true) where
-    abbrev behind : Bool
-    behind = (word_report row reads c report.pending).pending
-
+  module _ {i c : ℕ} {report : RowReport} (r : ReportTo row reads course i c report) (w : WholeWord c i course) {behind : Bool} (given : word_report row reads c report.pending ≡ Some behind) where
     whole : Clean (c + 64) w.recorded 64 i × (pending (i + 64) ≡ behind)
     unfolding word_report
     whole =
-        let none = and_both (not (some 64 c (λ x. active x && failing row first second (c + 64) x))) (not (report.pending && lost (c + 64) w.recorded c)) ok in
+        let told = some_given _ given in
+        let none = and_both (not (some 64 c (λ x. active x && failing row first second (c + 64) x))) (not (report.pending && lost (c + 64) w.recorded c)) told.0 in
         let not-lost = not-true (report.pending && lost (c + 64) w.recorded c) none.1 in
         let x = goes (c + 64) w.recorded 64 i c refl (λ u. r.at) (not-true (some 64 c (λ x. active x && failing row first second (c + 64) x)) none.0) (ap (λ p. p && lost (c + 64) w.recorded c) (sym r.pending) ∙ not-lost) in
-        (x.0, x.1 ∙ ap (λ p. pending_from row first second (c + 64) 64 c active p) (sym r.pending))
+        (x.0, x.1 ∙ ap (λ p. pending_from row first second (c + 64) 64 c active p) (sym r.pending) ∙ told.1)
 
     last_accepts : ((row_monitor row false false most).accept ≡ true) ⊎ (behind ≡ false) → (out (i + 63)).accept ≡ true
     unfolding row_pending
@@ -203,14 +207,13 @@ module _ (row : Row) (reads : Reads) (course : Course) where
         by (inr x) = last (inr (not-true behind x))
 
     pub word_goes : {c' : ℕ} → Settled (leb course.from i) → c' ≡ pick (ltb (suc (c + 63)) course.cycles) (suc (c + 63)) course.start
-        → ReportTo row reads course (i + 64) c' (record { failed = report.failed; pending = behind; accepted = report.accepted || leb course.from i })
+        → ReportTo row reads course (i + 64) c' (record { pending = behind; accepted = report.accepted || leb course.from i })
     unfolding position
     word_goes {c'} h next =
         let q : suc (i + 63) ≡ i + 64 = omega arith in
         record {
           within = w.within;
           at = next ∙ ap (λ m. pick (ltb (suc m) course.cycles) (suc m) course.start) (goes_on 63 i c r.at (omega (arith, w.recorded))) ∙ ap at q;
-          unfailed = r.unfailed;
           clean = λ j l. clean j l (lt_or_le j i);
           pending = sym whole.1;
           accepted = accepted_to (leb course.from i) refl h;

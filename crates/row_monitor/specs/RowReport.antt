@@ -1,5 +1,5 @@
 -- The monitor of one row along a take, as the check follows it. Assumes nothing.
-use Rattle.std.specs.Prelude.{ℕ, zero, suc, ◌≤◌, ◌<◌, ◌≡◌, Bool, true, false}
+use Rattle.std.specs.Prelude.{ℕ, zero, suc, ◌≤◌, ◌<◌, ◌≡◌, Bool, true, false, Result, Ok, Err}
 use Rattle.tables.specs.Bit.{bit_at}
 use Rattle.tables.specs.declared.row.Row.{Row}
 use Rattle.meaning.specs.Trace.{position}
@@ -43,9 +43,20 @@ module _ (row : Row) (reads : Reads) (course : Course) where
     pub seen : accepted ≡ true → (j : ℕ) × (course.from ≤ j) × (j < i) × ((course_output j).accept ≡ true)
     pub unseen : accepted ≡ false → (j : ℕ) → course.from ≤ j → j < i → (course_output j).accept ≡ false
 
-  pub record RowReportOf (r : RowReport) : Type 0 where
-    pub within : r.failed ≤ course.end
-    pub clean : (i : ℕ) → i < r.failed → (course_output i).failed ≡ false
-    pub fails : r.failed < course.end → (course_output r.failed).failed ≡ true
-    pub ends : r.failed ≡ course.end → r.pending ≡ course_pending course.end
-    pub accepts : r.failed ≡ course.end → AcceptedTo course.end r.accepted
+  -- no cycle below i fails
+  abbrev pub CleanTo : ℕ → Type 0
+  CleanTo i = (j : ℕ) → j < i → (course_output j).failed ≡ false
+
+  pub record FailsAt (i : ℕ) : Type 0 where
+    pub within : i < course.end
+    pub clean : CleanTo i
+    pub fails : (course_output i).failed ≡ true
+
+  pub record GoesThrough (r : RowReport) : Type 0 where
+    pub clean : CleanTo course.end
+    pub ends : r.pending ≡ course_pending course.end
+    pub accepts : AcceptedTo course.end r.accepted
+
+  abbrev pub RowReportOf : Result RowReport ℕ → Type 0
+  RowReportOf (Ok r) = GoesThrough r
+  RowReportOf (Err i) = FailsAt i

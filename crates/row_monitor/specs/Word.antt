@@ -1,5 +1,6 @@
 -- The monitor of one row in the 64 cycles of a word at once. Assumes nothing.
-use Rattle.std.specs.Prelude.{ℕ, zero, suc, ◌+◌, ◌-◌, ◌%◌, ◌≤◌, ◌≡◌, Bool, true, false, not, ◌&&◌, ◌||◌, ◌⊎◌}
+use Rattle.std.specs.Prelude.{ℕ, zero, suc, ◌+◌, ◌-◌, ◌%◌, ◌≤◌, ◌≡◌, Bool, true, false, not, ◌&&◌, ◌||◌, ◌⊎◌, Option}
+use Rattle.std.specs.Bool.{then_some}
 use Rattle.tables.specs.Bit.{bit_at, word_from}
 use Rattle.tables.specs.declared.row.Row.{Row}
 use Rattle.meaning.specs.Approximant.{approximant}
@@ -8,7 +9,6 @@ use Rattle.monitors.specs.Monitor.{row_monitor}
 use Rattle.row_monitor.specs.declared.row.Course.{Course}
 use Rattle.row_monitor.specs.declared.row.Reads.{Reads}
 use Rattle.row_monitor.specs.declared.word.Moves.{Moves}
-use Rattle.row_monitor.specs.declared.word.WordReport.{WordReport}
 
 -- f is on in one of the n cycles from b on
 unfoldable pub some : ℕ → ℕ → (ℕ → Bool) → Bool
@@ -52,11 +52,11 @@ module _ (row : Row) (f g : ℕ → Bool) (e : ℕ) where
   abbrev pub pending_from : ℕ → ℕ → (ℕ → Bool) → Bool → Bool
   pending_from n b z p = some n b (λ i. z i && staying i) || (p && held b)
 
-unfoldable pub word_report : Row → Reads → ℕ → Bool → WordReport
-word_report row reads b p = record {
-  clean = clean_from row (bit_at reads.first) (bit_at reads.second) (b + 64) 64 b (bit_at reads.active) p;
-  pending = pending_from row (bit_at reads.first) (bit_at reads.second) (b + 64) 64 b (bit_at reads.active) p;
-}
+-- whether it is pending behind the word at b, where none of its cycles fails
+unfoldable pub word_report : Row → Reads → ℕ → Bool → Option Bool
+word_report row reads b p = then_some
+    (clean_from row (bit_at reads.first) (bit_at reads.second) (b + 64) 64 b (bit_at reads.active) p)
+    (pending_from row (bit_at reads.first) (bit_at reads.second) (b + 64) 64 b (bit_at reads.active) p)
 
 -- the 64 cycles from cycle i of the course on are the word of the recording that begins at c, and either all of them count or none
 pub record WholeWord (c i : ℕ) (course : Course) : Type 0 where

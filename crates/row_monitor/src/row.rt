@@ -1,11 +1,13 @@
 // The monitor of one row along the take.
 ghost use Rattle.std.specs.Prelude.{◌≡◌, suc, ◌<◌, true, ltb};
+ghost use Rattle.tables.specs.Bit.{bit_at};
 ghost use Rattle.tables.specs.Choice.{pick};
+ghost use Rattle.monitors.specs.Monitor.{row_monitor};
 ghost use Rattle.row_monitor.specs.RowReport.{CourseOf, RowReportOf};
 ghost use Rattle.row_monitor.specs.Word.{WholeWord};
 
 use crate::word;
-use monitors::RowState;
+use monitors::{Output, RowState};
 use tables::row::Row;
 use tables::trace::Lane;
 
@@ -15,6 +17,23 @@ pub struct Reads {
     pub active: Lane,
     pub first: Lane,
     pub second: Lane,
+}
+
+impl Reads {
+    // What the row's monitor says in cycle c of the take.
+    fn say(&self, row: Row, c: u16, pending: bool) -> Output
+        requires { c < 256 }
+        ensures answer { result ≡ row_monitor row (bit_at self.now.first c) (bit_at self.now.second c)
+            (record { active = bit_at self.now.active c; pending = pending }) }
+    {
+        let state = RowState {
+            active: lanes::lane::bit(self.active, c as usize),
+            pending,
+        };
+        let first = lanes::lane::bit(self.first, c as usize);
+        let second = lanes::lane::bit(self.second, c as usize);
+        monitors::row(row, first, second, state)
+    }
 }
 
 // How far a take is gone through: so many of its cycles, going on at `start` behind the last of them, up to `end`. Accepts count
@@ -27,44 +46,45 @@ pub struct Course {
     pub end: u16,
 }
 
-// The first cycle in which the monitor fails, or the end; where it does not fail, whether it is pending after the last cycle, and
-// whether it has accepted in a cycle that counts.
+impl Course {
+    // The take's cycle behind cycle c.
+    fn next_cycle(self, c: u16) -> u16
+        requires { c < 256 }
+        ensures answer { result ≡ pick (ltb (suc c) self.cycles) (suc c) self.start }
+    {
+        if c + 1 < self.cycles {
+            return c + 1;
+        }
+        self.start
+    }
+
+    // The next 64 cycles, from cycle i of the course and c of the take on, are one word of the recording, and all of them count or
+    // none.
+    fn whole_word(self, c: u16, i: u16) -> bool
+        requires { (c < 256) × (i < 512) }
+        ensures answer { result ≡ true → WholeWord c i self }
+    {
+        (c % 64 == 0)
+            & (c + 64 <= self.cycles)
+            & (i + 64 <= self.end)
+            & ((i + 64 <= self.from) | (self.from <= i))
+    }
+}
+
+// A monitor that does not fail: whether it is pending after the last cycle, and whether it has accepted in a cycle that counts.
 #[derive(Clone, Copy)]
 pub struct RowReport {
-    pub failed: u16,
     pub pending: bool,
     pub accepted: bool,
 }
 
-// The take's cycle behind cycle c.
-fn next_cycle(c: u16, course: Course) -> u16
-    requires { c < 256 }
-    ensures answer { result ≡ pick (ltb (suc c) course.cycles) (suc c) course.start }
-{
-    if c + 1 < course.cycles {
-        return c + 1;
-    }
-    course.start
-}
-
-// The next 64 cycles of the course are one word of the recording, and all of them count or none.
-fn whole_word(c: u16, i: u16, course: Course) -> bool
-    requires { (c < 256) × (i < 512) }
-    ensures answer { result ≡ true → WholeWord c i course }
-{
-    (c % 64 == 0)
-        & (c + 64 <= course.cycles)
-        & (i + 64 <= course.end)
-        & ((i + 64 <= course.from) | (course.from <= i))
-}
-
-// Word by word where nothing fails in it and an accept that counts needs no search, else cycle by cycle.
-pub fn monitor_row(row: Row, reads: Reads, course: Course) -> RowReport
+// The report, or the first cycle in which the monitor fails. It goes word by word where nothing fails in the word and an accept that
+// counts needs no search, else cycle by cycle.
+pub fn monitor_row(row: Row, reads: Reads, course: Course) -> Result<RowReport, u16>
     requires { CourseOf course }
     ensures report { RowReportOf row reads course result }
 {
     let mut report = RowReport {
-        failed: course.end,
         pending: false,
         accepted: false,
     };
@@ -76,33 +96,27 @@ pub fn monitor_row(row: Row, reads: Reads, course: Course) -> RowReport
     let waiting = monitors::row(row, false, false, most);
     let mut c = 0u16;
     let mut i = 0u16;
+    // Stays: no range has these steps, 64 cycles or one.
     while i < course.end {
-        if whole_word(c, i, course) {
-            let word = word::monitor_word(row, reads, (c / 64) as usize, report.pending);
-            let counts = course.from <= i;
-            if word.clean & (!counts | report.accepted | waiting.accept | !word.pending) {
-                report.pending = word.pending;
-                report.accepted = report.accepted | counts;
-                c = next_cycle(c + 63, course);
-                i += 64;
-                continue;
-            }
+        let counts = course.from <= i;
+        if course.whole_word(c, i)
+            && let Some(pending) = word::monitor_word(row, reads, (c / 64) as usize, report.pending)
+            && (!counts | report.accepted | waiting.accept | !pending)
+        {
+            report.pending = pending;
+            report.accepted |= counts;
+            c = course.next_cycle(c + 63);
+            i += 64;
+            continue;
         }
-        let state = RowState {
-            active: lanes::lane::bit(reads.active, c as usize),
-            pending: report.pending,
-        };
-        let first = lanes::lane::bit(reads.first, c as usize);
-        let second = lanes::lane::bit(reads.second, c as usize);
-        let said = monitors::row(row, first, second, state);
+        let said = reads.say(row, c, report.pending);
         if said.failed {
-            report.failed = i;
-            return report;
+            return Err(i);
         }
         report.pending = said.pending;
-        report.accepted = report.accepted | (said.accept & (course.from <= i));
-        c = next_cycle(c, course);
+        report.accepted |= said.accept & counts;
+        c = course.next_cycle(c);
         i += 1;
     }
-    report
+    Ok(report)
 }

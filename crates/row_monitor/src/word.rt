@@ -17,13 +17,6 @@ pub struct Moves {
     pub holds: u64,
 }
 
-// Nothing fails in a word, and whether the monitor is pending behind it. (Where something fails, that does not count.)
-#[derive(Clone, Copy)]
-pub struct WordReport {
-    pub clean: bool,
-    pub pending: bool,
-}
-
 // Some bit is on.
 fn any(word: u64) -> bool
     ensures word { (b : ℕ) (f : ℕ → Bool) → word ≡ word_from 64 b f → result ≡ some 64 b f }
@@ -114,9 +107,9 @@ fn row_moves(row: Row, a: u64, b: u64) -> Moves
     }
 }
 
-// Each activation is followed forwards, all of them at once: it fails or stays where it does so, or is pending and a pending does so
-// from the next cycle on.
-pub fn monitor_word(row: Row, reads: Reads, at: usize, pending: bool) -> WordReport
+// Whether the monitor is pending behind the word, where nothing fails in it. Each activation is followed forwards, all of them at once:
+// it fails or stays where it does so, or is pending and a pending does so from the next cycle on.
+pub fn monitor_word(row: Row, reads: Reads, at: usize, pending: bool) -> Option<bool>
     requires { at < 4 }
     ensures answer { result ≡ word_report row reads (at * 64) pending }
 {
@@ -128,8 +121,6 @@ pub fn monitor_word(row: Row, reads: Reads, at: usize, pending: bool) -> WordRep
     let held = lanes::word::carry_from(m.holds, 0, 1);
     let failing = m.fails | (m.waits & lanes::word::next_from(dropped, 0));
     let staying = m.waits & lanes::word::next_from(held, 1);
-    WordReport {
-        clean: !any(active & failing) & !(pending & first(dropped)),
-        pending: any(active & staying) | (pending & first(held)),
-    }
+    let clean = !any(active & failing) & !(pending & first(dropped));
+    clean.then_some(any(active & staying) | (pending & first(held)))
 }
