@@ -27,11 +27,10 @@ use Rattle.monitor_circuit.specs.Monitors.{circuit_of, latch_count, wiring_of}
 use Rattle.monitor_circuit.proofs.GateRows.{first_gate, second_gate, third_gate}
 use Rattle.circuit_writer.specs.Answer.{circuit_text, writer_answer}
 use Rattle.circuit_writer.specs.Section.{gate_lines, input_lines, latch_lines, output_lines, said_lines}
-use Rattle.circuit_writer.specs.declared.section.Said.{Said}
-use Rattle.circuit_writer.specs.declared.section.Said.TheVariants.{Failed, Accept, Pending}
+use Rattle.monitor_circuit.specs.Wiring.{Wiring}
 use Rattle.line_writer.proofs.Lines.{Blocks, blocks_to, lines_append}
 use Rattle.circuit_writer.proofs.Sections.{gate_blocks, gate_block, gate_line, input_blocks, input_block, latch_blocks, latch_block, outputs_parted, said_blocks, said_block}
-use Rattle.circuit_writer.proofs.Small.{FourDigits, gate_small, latch_small, row_small, said_small}
+use Rattle.circuit_writer.proofs.Small.{FourDigits, gate_small, latch_small, row_small, SmallWiring}
 use Rattle.circuit_writer.proofs.Whole.{file_parted, header_numbers}
 
 -- ---- lines of numbers of four digits at most: five bytes for each number
@@ -84,19 +83,19 @@ module _ (g : NormalForm) (ok : InNormalForm g) where
       section_most (latch_block g) 10 g.rows (latch_blocks g)
       (λ i h. line_most _ ((wiring_of g (suc i)).pending ∷ []) (latch_small g ok h) ((row_small g ok h).small_pending, tt))
 
-  said_most : (said : Said) → length (written_lines (said_lines said g)) ≤ g.rows * 5
-  said_most said = section_most (said_block g said) 5 g.rows (said_blocks g said) (λ i h. line_most _ [] (said_small said (row_small g ok h)) tt)
+  said_most : (said : Wiring → ℕ) → ((w : Wiring) → SmallWiring w → FourDigits (said w)) → length (written_lines (said_lines said g)) ≤ g.rows * 5
+  said_most said small = section_most (said_block g said) 5 g.rows (said_blocks g said) (λ i h. line_most _ [] (small _ (row_small g ok h)) tt)
 
   outputs_most : length (written_lines (output_lines g)) ≤ g.rows * 15
   outputs_most =
       rw (← outputs_parted g)
       (omega (
         arith,
-        lines_length (said_lines Failed g) (said_lines Accept g ++ said_lines Pending g),
-        lines_length (said_lines Accept g) (said_lines Pending g),
-        said_most Failed,
-        said_most Accept,
-        said_most Pending,
+        lines_length (said_lines (λ w. w.failed) g) (said_lines (λ w. w.accept) g ++ said_lines (λ w. w.pending) g),
+        lines_length (said_lines (λ w. w.accept) g) (said_lines (λ w. w.pending) g),
+        said_most (λ w. w.failed) (λ w s. s.small_failed),
+        said_most (λ w. w.accept) (λ w s. s.small_accept),
+        said_most (λ w. w.pending) (λ w s. s.small_pending),
       ))
 
   gates_most : length (written_lines (gate_lines g)) ≤ g.rows * 45

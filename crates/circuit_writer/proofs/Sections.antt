@@ -23,9 +23,7 @@ use Rattle.monitor_circuit.proofs.WellFormed.{inputs_are}
 use Rattle.row_wiring.specs.declared.Own.{Own}
 use Rattle.row_wiring.specs.declared.Wiring.{Wiring}
 use Rattle.row_wiring.specs.Own.{own_of, wiring_as, wiring_at}
-use Rattle.circuit_writer.specs.Section.{gate_lines, input_lines, latch_lines, output_lines, said_lines, said_of}
-use Rattle.circuit_writer.specs.declared.section.Said.{Said}
-use Rattle.circuit_writer.specs.declared.section.Said.TheVariants.{Failed, Accept, Pending}
+use Rattle.circuit_writer.specs.Section.{gate_lines, input_lines, latch_lines, output_lines, said_lines}
 use Rattle.line_writer.proofs.Lines.{Blocks, PutTo, blocks_to, more_lines, put_more, single_blocks}
 
 abbrev pub input_block : Blocks
@@ -41,8 +39,8 @@ module _ (g : NormalForm) where
   abbrev pub latch_block : Blocks
   latch_block i = latch_line ((latches_of g).pending (suc i)) ∷ []
 
-  abbrev pub said_block : Said → Blocks
-  said_block said i = (said_of said (wiring_of g (suc i)) ∷ []) ∷ []
+  abbrev pub said_block : (MeantWiring → ℕ) → Blocks
+  said_block said i = (said (wiring_of g (suc i)) ∷ []) ∷ []
 
   abbrev pub gate_block : Blocks
   gate_block i = gate_line (first_gate g (suc i)) ∷ gate_line (second_gate g (suc i)) ∷ gate_line (third_gate g (suc i)) ∷ []
@@ -59,10 +57,10 @@ module _ (g : NormalForm) where
       single_blocks (λ i. latch_line ((latches_of g).pending (suc i))) g.rows
       ∙ sym (map_tabulate latch_line g.rows (λ i. (latches_of g).pending (suc i)))
 
-  pub said_blocks : (said : Said) → blocks_to (said_block said) g.rows ≡ said_lines said g
+  pub said_blocks : (said : MeantWiring → ℕ) → blocks_to (said_block said) g.rows ≡ said_lines said g
   said_blocks said =
-      single_blocks (λ i. said_of said (wiring_of g (suc i)) ∷ []) g.rows
-      ∙ sym (map_tabulate (λ l. l ∷ []) g.rows (λ i. said_of said (wiring_of g (suc i))))
+      single_blocks (λ i. said (wiring_of g (suc i)) ∷ []) g.rows
+      ∙ sym (map_tabulate (λ l. l ∷ []) g.rows (λ i. said (wiring_of g (suc i))))
 
   -- the gates of the last row stand last
   gates_last : (n k : ℕ) → gates_from g n k ++ (first_gate g (k + n) ∷ second_gate g (k + n) ∷ third_gate g (k + n) ∷ []) ≡ gates_from g (suc n) k
@@ -85,11 +83,11 @@ module _ (g : NormalForm) where
   pub gate_blocks : blocks_to gate_block g.rows ≡ gate_lines g
   gate_blocks = gates_to g.rows
 
-  pub outputs_parted : said_lines Failed g ++ (said_lines Accept g ++ said_lines Pending g) ≡ output_lines g
+  pub outputs_parted : said_lines (λ w. w.failed) g ++ (said_lines (λ w. w.accept) g ++ said_lines (λ w. w.pending) g) ≡ output_lines g
   outputs_parted =
-      let by : Said → List ℕ = λ said. tabulate g.rows (λ i. said_of said (wiring_of g (suc i))) in
-      ap (λ t. said_lines Failed g ++ t) (sym (map-append (λ l. l ∷ []) (by Accept) (by Pending)))
-      ∙ sym (map-append (λ l. l ∷ []) (by Failed) (by Accept ++ by Pending))
+      let by : (MeantWiring → ℕ) → List ℕ = λ said. tabulate g.rows (λ i. said (wiring_of g (suc i))) in
+      ap (λ t. said_lines (λ w. w.failed) g ++ t) (sym (map-append (λ l. l ∷ []) (by (λ w. w.accept)) (by (λ w. w.pending))))
+      ∙ sym (map-append (λ l. l ∷ []) (by (λ w. w.failed)) (by (λ w. w.accept) ++ by (λ w. w.pending)))
 
   -- ---- one row more
 
@@ -130,9 +128,9 @@ module _ (g : NormalForm) where
         (more_lines (gate_line (second_gate g (suc k)) ∷ []) (gate_line (third_gate g (suc k)) ∷ []) (gate_is (λ o. o.second) (λ r. r.second) w') (gate_is (λ o. o.third) (λ r. r.third) w'')))
         (omega arith)
 
-  pub said_more : {before now next : List ℕ} {at k e f : ℕ} (said : Said) {wiring : Wiring} {l : ℕ} → k < g.rows → wiring_as wiring ≡ read_wiring k → l ≡ said_of said (wiring_as wiring)
+  pub said_more : {before now next : List ℕ} {at k e f : ℕ} (said : MeantWiring → ℕ) {wiring : Wiring} {l : ℕ} → k < g.rows → wiring_as wiring ≡ read_wiring k → l ≡ said (wiring_as wiring)
       → PutTo (said_block said) 6 before at k now e → Wrote now e (written_lines ((l ∷ []) ∷ [])) next f → f ≤ e + 6 → PutTo (said_block said) 6 before at (k + 1) next f
-  said_more {k = k} said less ew el p w h = put_more p (wrote_is (ap (λ x. written_lines ((x ∷ []) ∷ [])) (el ∙ ap (said_of said) (ew ∙ read_is k less))) w) h
+  said_more {k = k} said less ew el p w h = put_more p (wrote_is (ap (λ x. written_lines ((x ∷ []) ∷ [])) (el ∙ ap said (ew ∙ read_is k less))) w) h
 
 pub input_more : {before now next : List ℕ} {at i e f : ℕ} → PutTo input_block 6 before at i now e → Wrote now e (written_lines ((2 * (i + 1) ∷ []) ∷ [])) next f → f ≤ e + 6
     → PutTo input_block 6 before at (i + 1) next f

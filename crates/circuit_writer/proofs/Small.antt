@@ -1,9 +1,9 @@
 -- All numbers of the circuit have four digits at most. Assumes nothing.
-use Prim.Native.Nat.{ℕ, suc, ◌+◌, ◌<◌}
+use Prim.Native.Nat.{ℕ, zero, suc, ◌+◌, ◌<◌}
 use mathlib.Core.Path.{◌≡◌, ap, subst, sym, ◌∙◌}
 use mathlib.Core.List.{[], ◌∷◌}
 use native.Mathlib.Omega.{arith}
-use Rattle.std.specs.List.{All}
+use Rattle.std.specs.List.{All, Contains}
 use Rattle.std.proofs.lemmas.List.Elements.{All-cons, All-nil}
 use Rattle.tables.specs.declared.row.NormalForm.{NormalForm}
 use Rattle.normal_form.specs.Form.{InNormalForm}
@@ -13,9 +13,7 @@ use Rattle.monitor_circuit.proofs.WellFormed.{wiring_low}
 use Rattle.row_wiring.specs.declared.Own.{Own}
 use Rattle.row_wiring.specs.declared.Wiring.{Wiring}
 use Rattle.row_wiring.specs.Own.{own_of, wiring_as}
-use Rattle.circuit_writer.specs.Section.{said_of}
-use Rattle.circuit_writer.specs.declared.section.Said.{Said}
-use Rattle.circuit_writer.specs.declared.section.Said.TheVariants.{Failed, Accept, Pending}
+use Rattle.circuit_writer.specs.Section.{said_literals}
 use Rattle.circuit_writer.proofs.Sections.{read_is, read_wiring}
 
 abbrev pub FourDigits : ℕ → Type 0
@@ -40,10 +38,11 @@ line_small {l} {o} h s =
     (All-cons (λ n. n < 100000) o.rhs0 (o.rhs1 ∷ []) (omega (arith, s.small_rhs0))
     (All-cons (λ n. n < 100000) o.rhs1 [] (omega (arith, s.small_rhs1)) (All-nil (λ n. n < 100000))))
 
-pub said_small : (said : Said) {w : MeantWiring} → SmallWiring w → FourDigits (said_of said w)
-said_small Failed s = s.small_failed
-said_small Accept s = s.small_accept
-said_small Pending s = s.small_pending
+pub said_small : {w : Wiring} {l : ℕ} → SmallWiring (wiring_as w) → Contains (said_literals w) l → FourDigits l
+said_small s (zero, h, e) = omega (arith, s.small_failed, e)
+said_small s (suc zero, h, e) = omega (arith, s.small_accept, e)
+said_small s (suc (suc zero), h, e) = omega (arith, s.small_pending, e)
+said_small s (suc (suc (suc i)), h, e) = absurd (omega arith)
 
 module _ (g : NormalForm) (ok : InNormalForm g) {k : ℕ} (h : k < g.rows) where
   pub gate_small : (j : ℕ) → j < 4 → FourDigits (gate_literal g j (suc k))

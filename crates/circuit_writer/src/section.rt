@@ -1,22 +1,15 @@
 // The sections of the file of a normal form's circuit, in their order.
-ghost use Rattle.std.specs.Prelude.{◌≡◌, ◌+◌, ◌*◌, ◌≤◌, length};
+ghost use Rattle.std.specs.Prelude.{ℕ, ◌+◌, ◌*◌, ◌≤◌, length};
+ghost use Rattle.std.specs.List.{Contains};
 ghost use Rattle.writing.specs.Lent.{Wrote};
 ghost use Rattle.circuit_file.specs.Written.{written_lines};
 ghost use Rattle.normal_form.specs.Form.{InNormalForm};
-ghost use Rattle.row_wiring.specs.Own.{wiring_as};
-ghost use Rattle.circuit_writer.specs.Section.{gate_lines, input_lines, latch_lines, output_lines, said_lines, said_of};
+ghost use Rattle.monitor_circuit.specs.Wiring.{Wiring as MeantWiring};
+ghost use Rattle.circuit_writer.specs.Section.{Says, gate_lines, input_lines, latch_lines, output_lines, said_lines, said_literals};
 
 use line_writer::put_numbers;
 use row_wiring::{Wiring, own_of, wiring_of};
 use tables::row::NormalForm;
-
-// What a monitor says, as the outputs have it.
-#[derive(Clone, Copy)]
-pub enum Said {
-    Failed,
-    Accept,
-    Pending,
-}
 
 // The signals, then the activators by row: their literals go on.
 pub fn put_inputs(buf: &mut [u8], at: usize, form: NormalForm) -> usize
@@ -47,26 +40,19 @@ pub fn put_latches(buf: &mut [u8], at: usize, form: NormalForm) -> usize
     end
 }
 
-fn said_of(said: Said, wiring: Wiring) -> u32
-    ensures answer { result ≡ said_of said (wiring_as wiring) }
-{
-    match said {
-        Said::Failed => wiring.failed,
-        Said::Accept => wiring.accept,
-        Said::Pending => wiring.pending,
-    }
-}
-
-// One of the three, by row.
-fn put_said(buf: &mut [u8], at: usize, form: NormalForm, said: Said) -> usize
-    requires { InNormalForm form × (at + 6 * form.rows ≤ length buf.old) }
-    ensures text { Wrote buf.old at (written_lines (said_lines said form)) buf.new result }
+// One of the three literals that a monitor says, by row.
+fn put_said<F: Fn(Wiring) -> u32>(buf: &mut [u8], at: usize, form: NormalForm, said: F) -> usize
+    requires fits { InNormalForm form × (at + 6 * form.rows ≤ length buf.old) }
+    requires callable { F.IsAlwaysCallable said }
+    requires one { (w : Wiring) (l : ℕ) → F.post said w l → Contains (said_literals w) l }
+    ensures text { (literal : MeantWiring → ℕ) → Says (F.post said) literal
+        → Wrote buf.old at (written_lines (said_lines literal form)) buf.new result }
     ensures room { result ≤ at + 6 * form.rows }
 {
     let mut end = at;
     for (k, place) in form.places[..form.rows as usize].iter().enumerate() {
         let wiring = wiring_of(place.row, form.signals, form.rows, k + 1);
-        end = put_numbers(&mut *buf, end, &[said_of(said, wiring)]);
+        end = put_numbers(&mut *buf, end, &[said(wiring)]);
     }
     end
 }
@@ -77,9 +63,9 @@ pub fn put_outputs(buf: &mut [u8], at: usize, form: NormalForm) -> usize
     ensures text { Wrote buf.old at (written_lines (output_lines form)) buf.new result }
     ensures room { result ≤ at + 18 * form.rows }
 {
-    let a = put_said(&mut *buf, at, form, Said::Failed);
-    let b = put_said(&mut *buf, a, form, Said::Accept);
-    put_said(buf, b, form, Said::Pending)
+    let a = put_said(&mut *buf, at, form, |wiring| wiring.failed);
+    let b = put_said(&mut *buf, a, form, |wiring| wiring.accept);
+    put_said(buf, b, form, |wiring| wiring.pending)
 }
 
 // The three gates of each row.
