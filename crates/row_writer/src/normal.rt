@@ -1,29 +1,12 @@
 // The file of a normal form, and the lines before the rows that every rule file has.
-ghost use Rattle.std.specs.Prelude.{[], ◌+◌, ◌≤◌, length};
-ghost use Rattle.text.specs.Written.{written_body};
+ghost use Rattle.std.specs.Prelude.{[], ◌≤◌, length};
 ghost use Rattle.rule_file.specs.Written.{rule_text};
-ghost use Rattle.rule_row.specs.Written.{written_row};
 ghost use Rattle.writing.specs.Lent.{Wrote};
-ghost use Rattle.row_writer.specs.Normal.{rows_of, written_normal};
+ghost use Rattle.row_writer.specs.Normal.{written_normal};
 
+use crate::row::put_rows;
 use tables::row::NormalForm;
 use writing::put::{put, put_byte, put_number};
-
-// The lines of all rows.
-fn put_rows(buf: &mut [u8], at: usize, form: NormalForm) -> usize
-    requires { (form.rows ≤ 128) × (at + 2816 ≤ length buf.old) }
-    ensures text { Wrote buf.old at (written_body 114 written_row 1 (rows_of form)) buf.new result }
-{
-    let mut i = at;
-    let mut k: u8 = 0;
-    while k < form.rows {
-        let place = form.places[k as usize];
-        let row = place.row;
-        i = crate::row::put_row_line(&mut *buf, i, k + 1, row);
-        k += 1;
-    }
-    i
-}
 
 // The three lines before the rows of a rule file, at the buffer's start.
 pub fn put_counts(buf: &mut [u8], signals: u8, rows: u8) -> usize
@@ -44,5 +27,5 @@ pub fn put_normal(buf: &mut [u8], form: NormalForm) -> usize
     ensures text { Wrote buf.old 0 (written_normal form) buf.new result }
 {
     let a = put_counts(&mut *buf, form.signals, form.rows);
-    put_rows(buf, a, form)
+    put_rows(buf, a, 1, &form.places[..form.rows as usize])
 }

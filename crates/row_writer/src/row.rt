@@ -1,13 +1,13 @@
-// The line of a row.
-ghost use Rattle.std.specs.Prelude.{[], ◌∷◌, ◌+◌, ◌≤◌, ◌<◌, length};
+// The lines of rows.
+ghost use Rattle.std.specs.Prelude.{[], ◌∷◌, ◌+◌, ◌*◌, ◌≤◌, ◌<◌, length, map};
 ghost use Rattle.tables.specs.Kind.{kind_at, kind_count, word_of};
-ghost use Rattle.text.specs.Written.{decimal, written_line};
+ghost use Rattle.text.specs.Written.{decimal, written_body, written_line};
 ghost use Rattle.rule_row.specs.Written.{written_row};
 ghost use Rattle.writing.specs.Lent.{Wrote};
 
 use tables::kind;
-use tables::row::Row;
-use writing::put::{put_byte, put_number};
+use tables::row::{Row, RowPlace};
+use writing::put::{put, put_byte, put_number};
 
 // The word of the kind at a place of the table.
 fn put_word(buf: &mut [u8], at: usize, place: usize) -> usize
@@ -17,8 +17,7 @@ fn put_word(buf: &mut [u8], at: usize, place: usize) -> usize
 {
     let kind = kind::kind_at(place);
     let bytes = kind.word;
-    let n = kind.length;
-    writing::put::put(buf, at, &bytes[..n])
+    put(buf, at, &bytes[..kind.length])
 }
 
 // A space and a number.
@@ -59,4 +58,16 @@ pub fn put_row_line(buf: &mut [u8], at: usize, number: u8, row: Row) -> usize
     let c = put_byte(&mut *buf, b, b'=');
     let d = put_row(&mut *buf, c, row);
     put_byte(buf, d, b'\n')
+}
+
+// The lines of rows that are numbered from `first` on.
+pub fn put_rows(buf: &mut [u8], at: usize, first: u8, places: &[RowPlace]) -> usize
+    requires { (first + length places.now ≤ 256) × (at + 22 * length places.now ≤ length buf.old) }
+    ensures text { Wrote buf.old at (written_body 114 written_row first (map (λ p. p.row) places.now)) buf.new result }
+{
+    let mut end = at;
+    for (k, place) in places.iter().enumerate() {
+        end = put_row_line(&mut *buf, end, first + k as u8, place.row);
+    }
+    end
 }

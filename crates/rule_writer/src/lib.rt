@@ -1,11 +1,9 @@
 // A formula written out as its rule file.
 #![tactic(auto)]
 
-ghost use Rattle.std.specs.Prelude.{◌≡◌, ◌+◌, ◌≤◌, length};
-ghost use Rattle.text.specs.Written.{written_body};
-ghost use Rattle.rule_row.specs.Written.{written_row};
+ghost use Rattle.std.specs.Prelude.{◌≡◌, ◌≤◌, length};
 ghost use Rattle.rule_file.specs.Valid.{InRange};
-ghost use Rattle.rule_file.specs.Written.{rows_of, written_rule};
+ghost use Rattle.rule_file.specs.Written.{written_rule};
 ghost use Rattle.writing.specs.Answer.{Delivers};
 ghost use Rattle.writing.specs.Lent.{Wrote};
 ghost use Rattle.rule_writer.specs.Answer.{rule_left, rule_written};
@@ -14,29 +12,13 @@ use tables::refusal::Outcome;
 use tables::row::Formula;
 use writing::answer::Bytes;
 
-// The lines of the used rows.
-fn put_rows(buf: &mut [u8], at: usize, formula: Formula) -> usize
-    requires { (formula.rows ≤ 64) × (at + 1408 ≤ length buf.old) }
-    ensures text { Wrote buf.old at (written_body 114 written_row 1 (rows_of formula)) buf.new result }
-{
-    let mut i = at;
-    let mut k: u8 = 0;
-    while k < formula.rows {
-        let place = formula.places[k as usize];
-        let row = place.row;
-        i = row_writer::row::put_row_line(&mut *buf, i, k + 1, row);
-        k += 1;
-    }
-    i
-}
-
 // The whole file, at the buffer's start.
 fn put_rule(buf: &mut [u8], formula: Formula) -> usize
     requires { (formula.rows ≤ 64) × (1438 ≤ length buf.old) }
     ensures text { Wrote buf.old 0 (written_rule formula) buf.new result }
 {
     let a = row_writer::normal::put_counts(&mut *buf, formula.signals, formula.rows);
-    put_rows(buf, a, formula)
+    row_writer::row::put_rows(buf, a, 1, &formula.places[..formula.rows as usize])
 }
 
 // The file of a formula that is known to be in range. It is made in an array of its own first, since its length is known only when all
