@@ -7,7 +7,6 @@ use std::rt::Files;
 use tables::refusal::Outcome;
 use tables::trace::Trace;
 use text::number::Number;
-use written_out::WrittenOut;
 
 // How many rounds, from a word that is a number.
 fn rounds(case: &[u8]) -> u8 {
@@ -18,13 +17,14 @@ fn rounds(case: &[u8]) -> u8 {
 }
 
 // The take file of the written-out form, or `none`. The longest take file has 32 signals, 256 cycles and no loop.
-fn show_take<W: Write>(out: &mut W, take: WrittenOut) -> io::Result<()> {
+fn show_take<W: Write>(out: &mut W, take: Option<Trace>) -> io::Result<()> {
     let mut text = [0u8; 9659];
-    if take.whole {
-        let answer = take_writer::write_take(take.trace, &mut text);
-        show::text(out, answer, &text)
-    } else {
-        printing::print_bytes(out, b"none\n")
+    match take {
+        Some(trace) => {
+            let answer = take_writer::write_take(trace, &mut text);
+            show::text(out, answer, &text)
+        }
+        None => printing::print_bytes(out, b"none\n"),
     }
 }
 

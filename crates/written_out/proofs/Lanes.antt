@@ -1,11 +1,12 @@
--- The lanes of all signals, one after the other. Assumes nothing.
-use Prim.Native.Nat.{ℕ, ◌+◌, ◌≤◌, ◌<◌}
+-- The lanes of all signals. Assumes nothing.
+use Prim.Native.Nat.{ℕ, zero, suc, ◌+◌, ◌≤◌, ◌<◌}
 use mathlib.Core.Path.{◌≡◌, sym, ◌∙◌}
 use mathlib.Core.List.{List, []}
 use native.Mathlib.Decide.{ℕ_discrete}
 use native.Mathlib.Omega.{arith}
-use lib.ListN.{length, set, replicate, length-set, length-replicate}
-use lib.Seq.{get_or-set_same, get_or-set_other}
+use lib.ListN.{length, get_or}
+use Rattle.std.specs.Array.{MapsFrom}
+use Rattle.std.specs.Fn.{Called, Mut}
 use Rattle.tables.specs.Bit.{lane_of}
 use Rattle.tables.specs.Place.{tabulate}
 use Rattle.tables.specs.declared.trace.Lane.{Lane}
@@ -18,21 +19,16 @@ use Rattle.written_out.proofs.OneLane.{repeated}
 abbrev pub written_lane : List Lane → ℕ → ℕ → ℕ → ℕ → Lane
 written_lane lanes n l last s = lane_of (cut last (repeated n l (lane_in lanes s)))
 
--- the first s of 32 lanes are as f
-pub record LanesTo (f : ℕ → Lane) (s : ℕ) (out : List Lane) : Type 0 where
-  pub long : length out ≡ 32
-  pub made : (i : ℕ) → i < s → lane_in out i ≡ f i
+-- 32 lanes that are as f
+pub lanes_are : (f : ℕ → Lane) (out : List Lane) → length out ≡ 32 → ((i : ℕ) → i < 32 → lane_in out i ≡ f i) → out ≡ tabulate 32 f
+lanes_are f out long made = sym (tabulate_get_d out 32 (record { words = [] }) long) ∙ tabulate_ext 32 (lane_in out) f made
 
-pub lanes_start : (f : ℕ → Lane) → LanesTo f 0 (replicate 32 (record { words = replicate 4 0 }))
-lanes_start f = record { long = length-replicate {A = Lane} 32 (record { words = replicate 4 0 }); made = λ i h. absurd (omega arith) }
-
-module _ {f : ℕ → Lane} {s : ℕ} {out : List Lane} (inv : LanesTo f s out) where
-  pub lanes_more : s < 32 → (lane : Lane) → lane ≡ f s → LanesTo f (s + 1) (set out s lane)
-  lanes_more h lane is = record { long = length-set out s lane ∙ inv.long; made = λ i l. by i l (ℕ_discrete i s) }
+-- what each call of a closure gives that stays as it is holds of a map's elements
+module _ {F A B : Type 0} (g : Mut F (A × Unit {0}) B) (f : F) (Gives : A → B → Type 0) (call : (a : A) (b : B) (q : F) → Called g f (a, tt) b q → Gives a b × (q ≡ f)) where
+  pub maps_at : (xs : List A) (ys : List B) (i n : ℕ) → MapsFrom g f xs ys i n → (k : ℕ) (d : A) (e : B) → i ≤ k → k < i + n → Gives (get_or xs k d) (get_or ys k e)
+  maps_at xs ys i zero m k d e l h = absurd (omega arith)
+  maps_at xs ys i (suc n) m k d e l h = by (ℕ_discrete k i) (call m.1 m.2 m.0 m.5) (λ same l'. maps_at xs ys (i + 1) n (rw same at m.6) k d e l' (omega arith))
     where
-      by : (i : ℕ) → i < s + 1 → Dec (i ≡ s) → lane_in (set out s lane) i ≡ f i
-      by i l (yes e) = rw e (get_or-set_same out s lane (record { words = [] }) (omega (arith, inv.long)) ∙ is)
-      by i l (no n) = get_or-set_other out s i lane (record { words = [] }) n ∙ inv.made i (omega arith)
-
-  pub lanes_end : 32 ≤ s → out ≡ tabulate 32 f
-  lanes_end h = sym (tabulate_get_d out 32 (record { words = [] }) inv.long) ∙ tabulate_ext 32 (lane_in out) f (λ i l. inv.made i (omega arith))
+      by : Dec (k ≡ i) → Gives m.1 m.2 × (m.0 ≡ f) → (m.0 ≡ f → i + 1 ≤ k → Gives (get_or xs k d) (get_or ys k e)) → Gives (get_or xs k d) (get_or ys k e)
+      by (yes same) c later = rw (same, m.3.1 d, m.4.1 e) c.0
+      by (no other) c later = later c.1 (omega arith)

@@ -1,6 +1,7 @@
 -- The take that the sheets of a normal form cover (02, request 6: "sheets for such rules cover the take with that many rounds written out
 -- before its loop"). Assumes nothing.
 use Rattle.std.specs.Prelude.{◌+◌, ◌≤◌}
+use Rattle.std.specs.Option.{unwrap_or}
 use Rattle.tables.specs.declared.row.NormalForm.{NormalForm}
 use Rattle.tables.specs.declared.trace.Ending.{Ending}
 use Rattle.tables.specs.declared.trace.Ending.TheVariants.{Open, Loop}
@@ -8,9 +9,10 @@ use Rattle.tables.specs.declared.trace.Trace.{Trace}
 use Rattle.meaning.specs.Nesting.{nesting}
 use Rattle.written_out.specs.WrittenOut.{round_cycles, written_out}
 
--- "that many": as many as past operators are nested. None is yet, so it is the take itself (law `covered_itself`).
+-- "that many": as many as past operators are nested. None is yet, so it is the take itself (law `covered_itself`). A take with no written-out
+-- form stands as it is.
 unfoldable pub covered : NormalForm → Trace → Trace
-covered g t = (written_out t (nesting g)).trace
+covered g t = unwrap_or (written_out t (nesting g)) t
 
 -- the written-out form has at most 256 cycles
 abbrev pub CoverableIn : NormalForm → Trace → Ending → Type 0

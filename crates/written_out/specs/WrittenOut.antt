@@ -1,6 +1,6 @@
 -- The take with rounds of its loop written out (02, request 6: "the take with that many rounds written out before its loop"). Assumes
 -- nothing.
-use Rattle.std.specs.Prelude.{ℕ, zero, suc, ◌+◌, ◌*◌, ◌-◌, true, false, ◌&&◌, List, [], ltb, leb, get_or}
+use Rattle.std.specs.Prelude.{ℕ, zero, suc, ◌+◌, ◌*◌, ◌-◌, ◌&&◌, List, [], Option, Some, None, ltb, leb, get_or}
 use Rattle.tables.specs.Bit.{bit_at, lane_of}
 use Rattle.tables.specs.Choice.{pick}
 use Rattle.tables.specs.Place.{tabulate}
@@ -9,11 +9,11 @@ use Rattle.tables.specs.declared.trace.Ending.TheVariants.{Open, Loop}
 use Rattle.tables.specs.declared.trace.Lane.{Lane}
 use Rattle.tables.specs.declared.trace.Trace.{Trace}
 use Rattle.meaning.specs.Trace.{position}
-use Rattle.written_out.specs.declared.WrittenOut.{WrittenOut}
 
 -- the first cycles of the endless repetition: each signal's lane over `last` cycles, from those of n cycles with the loop at l
 abbrev pub written_lanes : List Lane → ℕ → ℕ → ℕ → List Lane
-written_lanes lanes n l last = tabulate 32 (λ s. lane_of (λ c. ltb c last && bit_at (get_or lanes s (record { words = [] })) (position n l c)))
+written_lanes lanes n l last =
+    tabulate 32 (λ s. lane_of (λ c. ltb c last && bit_at (get_or lanes s (record { words = [] })) (position n l c)))
 
 -- how many cycles so many rounds of the loop are
 abbrev pub round_cycles : Trace → ℕ → ℕ → ℕ
@@ -28,22 +28,15 @@ written_trace t l more = record {
   lanes = written_lanes t.lanes t.cycles l (t.cycles + more);
 }
 
--- there is a written-out form, or there is none
-abbrev pub wholly : Trace → WrittenOut
-wholly u = record { whole = true; trace = u }
-
-abbrev pub too_long : Trace → WrittenOut
-too_long t = record { whole = false; trace = t }
-
 -- "a take whose written-out form passes 256 cycles" has none
-abbrev pub written_loop : Trace → ℕ → ℕ → WrittenOut
-written_loop t l more = pick (leb (t.cycles + more) 256) (wholly (written_trace t l more)) (too_long t)
+abbrev pub written_loop : Trace → ℕ → ℕ → Option Trace
+written_loop t l more = pick (leb (t.cycles + more) 256) (Some (written_trace t l more)) None
 
 -- no rounds: the take itself; an open one has no loop
-abbrev pub written_in : Trace → Ending → ℕ → WrittenOut
-written_in t Open rounds = wholly t
-written_in t (Loop l) zero = wholly t
+abbrev pub written_in : Trace → Ending → ℕ → Option Trace
+written_in t Open rounds = Some t
+written_in t (Loop l) zero = Some t
 written_in t (Loop l) (suc rounds) = written_loop t l (round_cycles t l (suc rounds))
 
-abbrev pub written_out : Trace → ℕ → WrittenOut
+abbrev pub written_out : Trace → ℕ → Option Trace
 written_out t rounds = written_in t t.ending rounds

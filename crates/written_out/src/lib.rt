@@ -9,13 +9,6 @@ ghost use Rattle.written_out.specs.WrittenOut.{written_lanes, written_loop, writ
 
 use tables::trace::{Ending, Lane, Trace, with_bit};
 
-// A trace of at most 256 cycles; or none where it would have more, and then the trace as it stands is beside that.
-#[derive(Clone, Copy)]
-pub struct WrittenOut {
-    pub whole: bool,
-    pub trace: Trace,
-}
-
 // One signal's lane over `last` cycles: behind the recording's, each is as one round of the loop before.
 fn lane_out(lane: Lane, cycles: usize, start: usize, last: usize) -> Lane
     requires { (start < cycles) × (cycles ≤ last) × (last ≤ 256) }
@@ -23,12 +16,10 @@ fn lane_out(lane: Lane, cycles: usize, start: usize, last: usize) -> Lane
 {
     let period = cycles - start;
     let mut out = lanes::lane::both(lane, lanes::lane::all(cycles));
-    let mut c = cycles;
-    while c < last {
+    for c in cycles..last {
         if lanes::lane::bit(out, c - period) {
             out = with_bit(out, c);
         }
-        c += 1;
     }
     out
 }
@@ -37,60 +28,44 @@ fn lanes_out(lanes: [Lane; 32], cycles: usize, start: usize, last: usize) -> [La
     requires { (start < cycles) × (cycles ≤ last) × (last ≤ 256) }
     ensures answer { result ≡ written_lanes lanes cycles start last }
 {
-    let mut out = [Lane { words: [0; 4] }; 32];
-    let mut s = 0;
-    while s < 32 {
-        out[s] = lane_out(lanes[s], cycles, start, last);
-        s += 1;
-    }
-    out
+    lanes.map(|lane| lane_out(lane, cycles, start, last))
 }
 
-// So many cycles more before a loop.
-fn loop_out(trace: Trace, start: u16, more: u32) -> WrittenOut
+// So many cycles more before a loop, where there are at most 256 then.
+fn loop_out(trace: Trace, start: u16, more: u32) -> Option<Trace>
     requires { (start < trace.cycles) × (more < 65536) }
     ensures answer { result ≡ written_loop trace start more }
 {
     if trace.cycles as u32 + more > 256 {
-        return WrittenOut {
-            whole: false,
-            trace,
-        };
+        return None;
     }
     let shift = more as u16;
     let cycles = trace.cycles + shift;
     let moved = start + shift;
-    let recorded = trace.lanes;
     let lanes = lanes_out(
-        recorded,
+        trace.lanes,
         trace.cycles as usize,
         start as usize,
         cycles as usize,
     );
-    let ending = Ending::Loop(moved);
-    let out = Trace {
+    Some(Trace {
         signals: trace.signals,
         cycles,
-        ending,
+        ending: Ending::Loop(moved),
         lanes,
-    };
-    WrittenOut {
-        whole: true,
-        trace: out,
-    }
+    })
 }
 
-// Without rounds it is the trace as it stands, and an open one has no loop.
-pub fn written_out(trace: Trace, rounds: u8) -> WrittenOut
+// Without rounds it is the trace as it stands, and an open one has no loop. None where it would have more than 256 cycles.
+pub fn written_out(trace: Trace, rounds: u8) -> Option<Trace>
     requires { InRange trace }
     ensures answer { result ≡ written_out trace rounds }
 {
-    let ending = trace.ending;
-    match ending {
-        Ending::Open => WrittenOut { whole: true, trace },
+    match trace.ending {
+        Ending::Open => Some(trace),
         Ending::Loop(start) => {
             if rounds == 0 {
-                return WrittenOut { whole: true, trace };
+                return Some(trace);
             }
             let more = rounds as u32 * (trace.cycles - start) as u32;
             loop_out(trace, start, more)

@@ -1,10 +1,6 @@
-use Prim.Native.Nat.{◌-◌, ◌≤◌}
 use Rattle.lanes.specs.Truth.{Shows}
 use Rattle.written_out.proofs.OneLane.{repeated}
 use Rattle.written_out.proofs.lane_out.Given as goal
 
 abbrev pub invariant-loop-c : goal.invariant-loop-c
-invariant-loop-c l = (l.cycles ≤ l.c) × (l.c ≤ l.last) × Shows l.c l.out (repeated l.cycles l.start l.initial.out)
-
-abbrev pub decreases-loop-c : goal.decreases-loop-c
-decreases-loop-c l = l.last - l.c
+invariant-loop-c l = Shows l.c l.out (repeated l.cycles l.start l.initial.out)

@@ -1,13 +1,11 @@
-use Prim.Native.Nat.{◌-◌}
-use borrow.Author.Rules.{rules}
-use Rattle.written_out.proofs.Lanes.{lanes_start, lanes_more, lanes_end}
+use Rattle.std.proofs.Common.{◌≡◌, rules, arith, []}
+use Rattle.tables.specs.Bit.{lane_of}
+use Rattle.lanes.proofs.Shown.{cut}
+use Rattle.written_out.proofs.OneLane.{repeated}
+use Rattle.written_out.proofs.Lanes.{lanes_are, maps_at}
 use Rattle.written_out.proofs.lanes_out.Goals as goal
 
-pub loop-s-init : goal.loop-s-init
-loop-s-init c = lanes_start _
-
-pub loop-s-preserved : goal.loop-s-preserved
-loop-s-preserved c = lanes_more c.loop-s.invariant (search rules) _ c.lane_out.ensures.answer
-
 pub returns : goal.returns
-returns c = record { answer = lanes_end c.loop-s.invariant (search rules) }
+returns c = record {
+  answer = lanes_are _ _ c.map.ensures.items.long (λ i h. maps_at _ _ (λ a b. b ≡ lane_of (cut c.args.last (repeated c.args.cycles c.args.start a))) (λ a b q called. (search rules, search rules)) c.args.lanes c.map.result 0 32 c.map.ensures.items.each i (record { words = [] }) (record { words = [] }) (omega arith) (omega arith));
+}

@@ -1,22 +1,14 @@
 use mathlib.Core.Path.{◌≡◌, sym, ap, ◌∙◌}
+use Rattle.std.specs.Prelude.{Some}
 use native.Mathlib.Omega.{arith}
 use borrow.Author.Rules.{rules}
-use Rattle.written_out.specs.WrittenOut.{wholly, written_out}
+use Rattle.written_out.specs.WrittenOut.{written_out}
 use Rattle.written_out.proofs.Whole.{loop_below, rounds_room, written_open, written_none, written_some}
-use Rattle.written_out.proofs.written_out.Reads as reads
-use Rattle.written_out.proofs.written_out.Lts as lts
-use Rattle.written_out.proofs.loop_out.Reads as loop-out-reads
 use Rattle.written_out.proofs.written_out.Goals as goal
-
-pub enum_told-1 : goal.enum_told-1
-enum_told-1 c = search rules
-
-pub enum_known-ending : goal.enum_known-ending
-enum_known-ending c = search rules
 
 pub returns-then-rounds-eq0 : goal.returns-then-rounds-eq0
 returns-then-rounds-eq0 c = record {
-  answer = let e : written_out c.args.trace c.args.rounds ≡ wholly c.args.trace =
+  answer = let e : written_out c.args.trace c.args.rounds ≡ Some c.args.trace =
       ap (written_out c.args.trace) c.if-rounds-eq0.true ∙ written_none c.args.trace _ c.in-Loop.is in
       sym e;
 }
@@ -24,9 +16,6 @@ returns-then-rounds-eq0 c = record {
 pub overflow_sub-more : goal.overflow_sub-more
 overflow_sub-more c =
     let h = loop_below c.requires _ c.in-Loop.is in omega (arith, h)
-
-pub overflow_cast-more-in-Loop : goal.overflow_cast-more-in-Loop
-overflow_cast-more-in-Loop c = search rules
 
 pub overflow_mul-more : goal.overflow_mul-more
 overflow_mul-more c =
