@@ -9,8 +9,8 @@ use Rattle.tables.specs.declared.trace.Trace.{Trace}
 use Rattle.meaning.specs.Nesting.{nesting}
 use Rattle.written_out.specs.WrittenOut.{round_cycles, written_out}
 
--- "that many": as many as past operators are nested. None is yet, so it is the take itself (law `covered_itself`). A take with no written-out
--- form stands as it is.
+-- "that many": as many as past operators are nested. None is yet, so it is the take itself (law `covered_itself`). Where there is no
+-- written-out form it is the take itself too.
 unfoldable pub covered : NormalForm → Trace → Trace
 covered g t = unwrap_or (written_out t (nesting g)) t
 
