@@ -44,9 +44,6 @@ module _ (g : NormalForm) (turn : ℕ → ℕ) (before : List Bool) where
     pub signals : (j : ℕ) → j < 32 → get_or cells j false ≡ get_or before j false
     pub behind : (j : ℕ) → 32 + g.rows ≤ j → get_or cells j false ≡ get_or before j false
 
-  pub filled_none : FilledTo 0 before
-  filled_none = record { size = refl; filled = λ k a b h. absurd (omega arith); ahead = λ k a b h. refl; signals = λ j h. refl; behind = λ j h. refl }
-
 module _ {g : NormalForm} (ok : InNormalForm g) {steps : List Step} (s : StepsOf g steps) where
   row_of : (k : ℕ) → 1 ≤ k → k ≤ g.rows → Each (λ a. (1 ≤ a) × (a < k)) (table_of g.places k) × EachSignal (λ n. (1 ≤ n) × (n ≤ 32)) (table_of g.places k)
   row_of k a b = (form_operands g ok k (omega arith), let e : suc (k - 1) ≡ k = omega arith in subst (λ m. EachSignal (λ n. (1 ≤ n) × (n ≤ 32)) (table_of g.places m)) e (row_signals g ok (k - 1) (omega arith)))

@@ -1,5 +1,5 @@
 -- The pattern that one of the code's means. Assumes nothing.
-use Rattle.meaning.specs.Pattern.{Pattern, Pattern.now, Pattern.next, Pattern.connective, Pattern.temporal}
+use Rattle.meaning.specs.Pattern.{Pattern}
 use Rattle.cycle_rows.specs.declared.pattern.Pattern.{Pattern as CodePattern}
 use Rattle.cycle_rows.specs.declared.pattern.Pattern.TheVariants.{Now, Next, Connective, Temporal}
 

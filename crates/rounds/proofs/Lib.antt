@@ -7,6 +7,5 @@ pub mod History
 pub mod Start
 pub mod Spreading
 pub mod Words
-pub mod Signals
 pub mod Back
 pub mod Loops

@@ -2,7 +2,7 @@
 use Prim.Native.Nat.{ℕ, zero, suc, ◌-◌, ◌≤◌, ◌<◌}
 use mathlib.Core.Path.{◌≡◌, refl, sym, subst, subst⁻¹}
 use mathlib.Core.Logic.{◌↔◌, inl, inr}
-use mathlib.Core.Bool.{Bool, true, false, not, true≢false}
+use mathlib.Core.Bool.{Bool, true, false, true≢false}
 use mathlib.Core.List.{List}
 use native.Mathlib.Omega.{arith}
 use Rattle.tables.specs.declared.row.NormalForm.{NormalForm}
@@ -47,14 +47,6 @@ rounds_most g ok rounds few =
     let rises : Rises g (λ a. a - 1) = λ k h. rises_at k (table_of g.places (suc k)) (pattern_of (table_of g.places (suc k))) (form_operands g ok (suc k) (omega arith)) in
     let m : rounds ≤ suc (g.rows - 1) = few (λ a. a - 1) rises (g.rows - 1) (λ k h. omega arith) in
     omega arith
-
-pub go_on : (b : Bool) → not b ≡ true → b ≡ false
-go_on true e = sym e
-go_on false e = refl
-
-pub ended : (b : Bool) → not b ≡ false → b ≡ true
-ended true e = refl
-ended false e = sym e
 
 pub loop_within : (t : Trace) (l : ℕ) → InRange t → t.ending ≡ Loop l → l < t.cycles
 loop_within t l range e = subst (λ ending. LoopBelow t.cycles ending) e range.loop

@@ -32,18 +32,18 @@ pub fn fill_looped(form: NormalForm, trace: Trace, start: u16) -> Looped
     let mut cells = [false; 160];
     between_rounds::restart(form, &sure, &mut cells);
     crate::round::fill_at(&steps, &digits, first, &mut cells);
-    let mut words = [0; 512];
     let mut rounds = 0;
-    let mut done = false;
-    while !done {
+    'rounds: loop {
         between_rounds::restart(form, &sure, &mut cells);
         let behind = cells;
-        words = [0; 512];
+        let mut words = [0; 512];
         crate::round::go_back(&steps, &digits, first, last, &mut cells, &mut words);
-        done = between_rounds::survey(form, &behind, &cells, &mut sure);
         rounds += 1;
+        // Where all rows are sure, this round goes on through the stem.
+        if between_rounds::survey(form, &behind, &cells, &mut sure) {
+            crate::round::go_back(&steps, &digits, 0, first, &mut cells, &mut words);
+            let lanes = crate::record::lanes_of(words);
+            return Looped { lanes, rounds };
+        }
     }
-    crate::round::go_back(&steps, &digits, 0, first, &mut cells, &mut words);
-    let lanes = crate::record::lanes_of(words);
-    Looped { lanes, rounds }
 }

@@ -34,10 +34,8 @@ pub fn lanes_of(words: [u64; 512]) -> [Lane; 128]
         → (k : ℕ) → k < rows → Shows n (lane_in result k) (λ c. columns c (suc k)) }
 {
     let mut lanes = [Lane { words: [0; 4] }; 128];
-    for k in 0..128 {
-        lanes[k] = Lane {
-            words: [words[k], words[128 + k], words[256 + k], words[384 + k]],
-        };
+    for (k, lane) in lanes.iter_mut().enumerate() {
+        lane.words = [words[k], words[128 + k], words[256 + k], words[384 + k]];
     }
     lanes
 }

@@ -25,8 +25,8 @@ pub fn fill_at(steps: &Steps, digits: &[bool; 8192], cycle: usize, cells: &mut [
     ensures filled { (g : NormalForm) → Prepared g steps.now
         → CycleFrom g (given_from digits.now cycle) (row_cell cells.old) (row_cell cells.new) }
 {
-    put_signals(digits, cycle, &mut *cells);
-    cycle_rows::fill_cycle(steps, &mut *cells);
+    put_signals(digits, cycle, cells);
+    cycle_rows::fill_cycle(steps, cells);
 }
 
 // The cycles from the one before `to` down to `from`, each recorded.
@@ -45,7 +45,7 @@ pub fn go_back(
         → RoundBack g (given_from digits.now) n from to later (row_cell cells.new) words.new }
 {
     for c in (from..to).rev() {
-        fill_at(steps, digits, c, &mut *cells);
-        crate::record::record(steps.rows, &*cells, c, &mut *words);
+        fill_at(steps, digits, c, cells);
+        crate::record::record(steps.rows, cells, c, words);
     }
 }

@@ -23,6 +23,6 @@ pub fn spread(lanes: [Lane; 32], signals: usize, cycles: usize, digits: &mut [bo
     ensures spread { SpreadTo signals cycles lanes digits.new }
 {
     for s in 0..signals {
-        spread_signal(lanes[s], s, cycles, &mut *digits);
+        spread_signal(lanes[s], s, cycles, digits);
     }
 }
