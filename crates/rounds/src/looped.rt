@@ -39,8 +39,9 @@ pub fn fill_looped(form: NormalForm, trace: Trace, start: u16) -> Looped
         let mut words = [0; 512];
         crate::round::go_back(&steps, &digits, first, last, &mut cells, &mut words);
         rounds += 1;
+        let done = between_rounds::survey(form, &behind, &cells, &mut sure);
         // Where all rows are sure, this round goes on through the stem.
-        if between_rounds::survey(form, &behind, &cells, &mut sure) {
+        if done {
             crate::round::go_back(&steps, &digits, 0, first, &mut cells, &mut words);
             let lanes = crate::record::lanes_of(words);
             return Looped { lanes, rounds };
