@@ -3,8 +3,7 @@ use Prim.Native.Nat.{ℕ, ◌<◌}
 use mathlib.Core.Path.{◌≡◌, refl, sym, ap, ap₂, subst, ◌∙◌}
 use mathlib.Core.Logic.{◌⊎◌, inl, inr}
 use mathlib.Core.Bool.{false}
-use native.Mathlib.Decide.{dec_lt}
-use native.Mathlib.Omega.{arith}
+use Rattle.std.proofs.lemmas.Bool.{cases_order}
 use Rattle.tables.specs.declared.row.NormalForm.{NormalForm}
 use Rattle.tables.specs.declared.trace.Activation.{Activation}
 use Rattle.tables.specs.declared.trace.Ending.{Ending}
@@ -15,15 +14,6 @@ use Rattle.monitors.specs.Sheet.{activator_at, PassesLooped, PassesOpen, PassesI
 use Rattle.checking.specs.declared.finding.Finding.{Finding}
 use Rattle.checking.specs.declared.finding.Finding.TheVariants.{Root, Failed, Starved, Pending, Passes}
 use Rattle.checking.specs.Finding.{RootSet, NoneFails, FailsFirst, StarvesFirst, PendsFirst, FindingSays, FindingOf}
-
--- the first of two numbers, or the same
-order : (m n : ℕ) → (m ≡ n) ⊎ ((m < n) ⊎ (n < m))
-order m n = by (dec_lt m n) (dec_lt n m)
-  where
-    by : Dec (m < n) → Dec (n < m) → (m ≡ n) ⊎ ((m < n) ⊎ (n < m))
-    by (yes h) d = inr (inl h)
-    by (no h) (yes l) = inr (inr l)
-    by (no h) (no l) = inl (omega arith)
 
 module _ (g : NormalForm) (t : Trace) (a : Activation) where
   -- ---- where a finding stands: at the root, at a failure, or behind both
@@ -58,7 +48,7 @@ module _ (g : NormalForm) (t : Trace) (a : Activation) where
 
   -- no two first failures
   one_failure : (e : Ending) {r c r' c' : ℕ} → FailsFirst g t a e r c → FailsFirst g t a e r' c' → (r' ≡ r) × (c' ≡ c)
-  one_failure e {r} {c} {r'} {c'} x y = by (order c' c)
+  one_failure e {r} {c} {r'} {c'} x y = by (cases_order c' c)
     where
       same : c' ≡ c → (r' ≡ r) ⊎ ((r' < r) ⊎ (r < r')) → (r' ≡ r) × (c' ≡ c)
       same q (inl p) = (p, q)
@@ -66,7 +56,7 @@ module _ (g : NormalForm) (t : Trace) (a : Activation) where
       same q (inr (inr h)) = on_and_off x.fails (rw (sym q) (y.lowest r x.a_row h))
 
       by : (c' ≡ c) ⊎ ((c' < c) ⊎ (c < c')) → (r' ≡ r) × (c' ≡ c)
-      by (inl q) = same q (order r' r)
+      by (inl q) = same q (cases_order r' r)
       by (inr (inl h)) = on_and_off y.fails (x.earliest c' r' h y.a_row)
       by (inr (inr h)) = on_and_off x.fails (y.earliest c r h x.a_row)
 
@@ -81,7 +71,7 @@ module _ (g : NormalForm) (t : Trace) (a : Activation) where
   pub starved_only : (l row : ℕ) → StarvesFirst g t a l row → (y : Finding) → FindingSays g t a (Loop l) y → y ≡ Starved row
   starved_only l row x Root s = on_and_off x.root_set s
   starved_only l row x (Failed r c) s = on_and_off s.fails (x.none_fails c r s.a_cycle s.a_row)
-  starved_only l row x (Starved r) s = by (order r row)
+  starved_only l row x (Starved r) s = by (cases_order r row)
     where
       by : (r ≡ row) ⊎ ((r < row) ⊎ (row < r)) → Starved r ≡ Starved row
       by (inl q) = ap Starved q
@@ -94,7 +84,7 @@ module _ (g : NormalForm) (t : Trace) (a : Activation) where
   pending_only row x Root s = on_and_off x.root_set s
   pending_only row x (Failed r c) s = on_and_off s.fails (x.none_fails c r s.a_cycle s.a_row)
   pending_only row x (Starved r) s = absurd s
-  pending_only row x (Pending r) s = by (order r row)
+  pending_only row x (Pending r) s = by (cases_order r row)
     where
       by : (r ≡ row) ⊎ ((r < row) ⊎ (row < r)) → Pending r ≡ Pending row
       by (inl q) = ap Pending q

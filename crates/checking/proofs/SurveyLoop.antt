@@ -6,7 +6,7 @@ use mathlib.Core.Bool.{Bool, true, false, not}
 use native.Mathlib.Nat.{eq-or-lt_of_le}
 use native.Mathlib.Decide.{dec_le}
 use native.Mathlib.Omega.{arith}
-use borrow.Author.Tests.{le-leb, lt-leb}
+use borrow.Author.Tests.{not-true, not-false, le-leb, lt-leb}
 use Rattle.std.proofs.Common.{Option, Some, None, Result, Ok, Err}
 use Rattle.std.specs.Bool.{then_some}
 use Rattle.std.specs.Option.{option_or, MatchOption}
@@ -149,10 +149,6 @@ module _ (g : NormalForm) (t : Trace) (a : Activation) (course : Course) where
         lowest = record { a_row = (before.lowest.a_row.0, omega (arith, before.lowest.a_row.1)); bad = before.lowest.bad; lower = before.lowest.lower };
       }
 
-      flip : (b c : Bool) → not b ≡ c → b ≡ not c
-      flip true c e = ap not e
-      flip false c e = ap not e
-
       accepts : r.accepted ≡ true → Accepts g t a course (suc m)
       accepts q = let y = x.accepts.seen q in (y.0, y.1, y.2, sym (ap (λ (o : Output). o.accept) (row_said y.0)) ∙ y.3)
 
@@ -165,7 +161,7 @@ module _ (g : NormalForm) (t : Trace) (a : Activation) (course : Course) where
       survey_goes : SurveyTo g t a course (suc m) (noted s (suc m) (Ok r))
       survey_goes = record {
         failure = stays s.failure to.failure;
-        starved = λ e. lowest_next (Accepts g t a course) (Starves g t a course) s.starved (to.starved e) (not r.accepted) (λ q. starves (flip r.accepted true q)) (λ q. accepts (flip r.accepted false q));
+        starved = λ e. lowest_next (Accepts g t a course) (Starves g t a course) s.starved (to.starved e) (not r.accepted) (λ q. starves (not-true r.accepted q)) (λ q. accepts (not-false r.accepted q));
         pending = λ e. lowest_next (λ k. waiting g t a course course.end k ≡ false) (λ k. waiting g t a course course.end k ≡ true) s.pending (to.pending e) r.pending (λ q. waits ∙ q) (λ q. waits ∙ q);
       }
 

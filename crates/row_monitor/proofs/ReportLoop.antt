@@ -8,6 +8,7 @@ use native.Mathlib.Numerals.{add-one}
 use native.Mathlib.Omega.{arith}
 use lib.Dec.{ltb, leb}
 use borrow.Author.Tests.{le-leb, leb-true}
+use Rattle.std.proofs.lemmas.Bool.{or_cases, or_parts, and_parts}
 use Rattle.tables.specs.Choice.{pick}
 use Rattle.tables.specs.Bit.{bit_at}
 use Rattle.tables.specs.declared.row.Row.{Row}
@@ -20,18 +21,6 @@ use Rattle.row_monitor.specs.declared.row.Course.{Course}
 use Rattle.row_monitor.specs.declared.row.Reads.{Reads}
 use Rattle.row_monitor.specs.declared.row.RowReport.{RowReport}
 use Rattle.row_monitor.specs.RowReport.{row_pending, CourseOf, AcceptedTo, course_output, course_pending, CleanTo, FailsAt, GoesThrough}
-
-pub or_cases : (x y : Bool) → (x || y) ≡ true → (x ≡ true) ⊎ (y ≡ true)
-or_cases true y e = inl refl
-or_cases false y e = inr e
-
-pub or_none : (x y : Bool) → (x || y) ≡ false → (x ≡ false) × (y ≡ false)
-or_none true y e = absurd (true≢false e)
-or_none false y e = (refl, e)
-
-pub and_both : (x y : Bool) → (x && y) ≡ true → (x ≡ true) × (y ≡ true)
-and_both true y e = (refl, e)
-and_both false y e = absurd (true≢false (sym e))
 
 and_one : (x y : Bool) → (x && y) ≡ false → y ≡ true → x ≡ false
 and_one true y e h = on_and_off h e
@@ -97,11 +86,11 @@ module _ (row : Row) (reads : Reads) (course : Course) where
           where
             by : (report.accepted ≡ true) ⊎ ((said.accept && leb course.from i) ≡ true) → (j : ℕ) × (course.from ≤ j) × (j < i + 1) × ((course_output row reads course j).accept ≡ true)
             by (inl x) = let s = r.accepted.seen x in (s.0, s.1, omega (arith, s.2), s.3)
-            by (inr x) = let s = and_both said.accept (leb course.from i) x in (i, leb-true course.from i s.1, omega arith, sym accept ∙ s.0)
+            by (inr x) = let s = and_parts said.accept (leb course.from i) x in (i, leb-true course.from i s.1, omega arith, sym accept ∙ s.0)
 
         unseen : (report.accepted || (said.accept && leb course.from i)) ≡ false → (j : ℕ) → course.from ≤ j → (j ≡ i) ⊎ (j < i) → (course_output row reads course j).accept ≡ false
-        unseen q j a (inl m) = subst⁻¹ (λ x. (course_output row reads course x).accept ≡ false) m (sym accept ∙ and_one said.accept (leb course.from i) (or_none report.accepted _ q).1 (le-leb course.from i (omega arith)))
-        unseen q j a (inr l) = r.accepted.unseen (or_none report.accepted _ q).0 j a l
+        unseen q j a (inl m) = subst⁻¹ (λ x. (course_output row reads course x).accept ≡ false) m (sym accept ∙ and_one said.accept (leb course.from i) (or_parts report.accepted _ q).1 (le-leb course.from i (omega arith)))
+        unseen q j a (inr l) = r.accepted.unseen (or_parts report.accepted _ q).0 j a l
 
   pub report_ends : {i c : ℕ} {report : RowReport} → ReportTo i c report → course.end ≤ i → GoesThrough row reads course report
   report_ends {i} {c} {report} r l =

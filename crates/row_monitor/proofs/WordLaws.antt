@@ -9,6 +9,7 @@ use lib.ListN.{get_or}
 use native.Mathlib.Decide.{ℕ_discrete}
 use borrow.Author.Tests.{eq-eqb, ne_eqb}
 use Rattle.std.proofs.lemmas.Nat.{and_mask}
+use Rattle.std.proofs.Math.Bool.{and-true}
 use Rattle.tables.specs.Choice.{pick}
 use Rattle.tables.specs.Bit.{bit_at, word_from}
 use Rattle.tables.specs.declared.row.Row.{Row}
@@ -67,11 +68,7 @@ word_of_lane l q h =
     ∙ word_ext 64 (q * 64) _ _ (λ i lo hi.
     let p : i - q * 64 ≡ i % 64 = omega arith in
     let r : q ≡ i / 64 = omega arith in
-    rw (p, r) (and_true (word_bit (get_or l.words (i / 64) 0) (i % 64))))
-  where
-    and_true : (x : Bool) → (x && true) ≡ x
-    and_true true = refl
-    and_true false = refl
+    rw (p, r) (and-true (word_bit (get_or l.words (i / 64) 0) (i % 64))))
 
 -- ---- the moves of a monitor that reads its activator alone, and of one for which an activator and a pending are the same
 

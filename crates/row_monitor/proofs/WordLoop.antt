@@ -9,6 +9,8 @@ use lib.Dec.{ltb, leb}
 use borrow.Author.Tests.{not-true, leb-true, leb-false}
 use Rattle.std.proofs.Common.{Some}
 use Rattle.std.specs.Bool.{then_some}
+use Rattle.std.proofs.Math.Bool.{and-true}
+use Rattle.std.proofs.lemmas.Bool.{or_cases, or_parts, or_from, and_parts}
 use Rattle.tables.specs.Choice.{pick}
 use Rattle.tables.specs.Bit.{bit_at}
 use Rattle.tables.specs.declared.row.Row.{Row}
@@ -24,7 +26,7 @@ use Rattle.row_monitor.specs.declared.row.RowReport.{RowReport}
 use Rattle.row_monitor.specs.RowReport.{row_pending, AcceptedTo, course_output, course_pending}
 use Rattle.row_monitor.specs.Word.{some, when_active, when_pending, dropped, held, failing, staying, pending_from, word_report, WholeWord}
 use Rattle.row_monitor.proofs.Causes.{by_both, most, accepts, failed_by, pending_by}
-use Rattle.row_monitor.proofs.ReportLoop.{ReportTo, or_cases, or_none, and_both}
+use Rattle.row_monitor.proofs.ReportLoop.{ReportTo}
 
 -- ---- one cycle of a word
 
@@ -33,13 +35,6 @@ no_failure : (z f w x : Bool) → (z && (f || (w && x))) ≡ false → ((z && f)
 no_failure true true w x e = absurd (true≢false e)
 no_failure true false w x e = (refl, e)
 no_failure false f w x e = (refl, refl)
-
-and_on : (x : Bool) → (x && true) ≡ x
-and_on true = refl
-and_on false = refl
-
-or_off : {x y : Bool} → x ≡ false → y ≡ false → (x || y) ≡ false
-or_off e q = rw (e, q)
 
 -- pending behind the word: by this cycle's activator (z, w) or pending (p, h), or by a later cycle's activator (s)
 stays_on : (z p w h s x : Bool) → (s || (((z && w) || (p && h)) && x)) ≡ (((z && (w && x)) || s) || (p && (h && x)))
@@ -124,17 +119,17 @@ module _ (row : Row) (reads : Reads) (course : Course) where
     unfolding some
     goes zero i m q h none l =
         let r : i + 0 ≡ i = omega arith in
-        (λ j a b. absurd (omega arith), ap pending r ∙ sym (ap (λ k. pending i && k) (keeps_end m (omega arith)) ∙ and_on (pending i)))
+        (λ j a b. absurd (omega arith), ap pending r ∙ sym (ap (λ k. pending i && k) (keeps_end m (omega arith)) ∙ and-true (pending i)))
     goes (suc n) i m q h none l =
         let here = h (omega arith) in
         let next = pending_here i m here in
-        let parts = or_none _ _ none in
+        let parts = or_parts _ _ none in
         let one = no_failure (active m) (when_active row (first m) (second m)).failed (when_active row (first m) (second m)).pending (lost (suc m)) parts.0 in
         let other = no_failure (pending i) (when_pending row (first m) (second m)).failed (when_pending row (first m) (second m)).pending (lost (suc m)) (rw (lost_now m (omega arith)) at l) in
-        let later = ap (λ y. y && lost (suc m)) next ∙ by_both (active m && (when_active row (first m) (second m)).pending) (pending i && (when_pending row (first m) (second m)).pending) (lost (suc m)) ∙ or_off one.1 other.1 in
+        let later = ap (λ y. y && lost (suc m)) next ∙ by_both (active m && (when_active row (first m) (second m)).pending) (pending i && (when_pending row (first m) (second m)).pending) (lost (suc m)) ∙ or_from _ _ one.1 other.1 in
         let rest = goes n (suc i) (suc m) (omega arith) (λ u. next_at_lem i m here (omega arith)) parts.1 later in
         let r : i + suc n ≡ suc i + n = omega arith in (
-          clean (failed_here i m here ∙ or_off one.0 other.0) rest.0,
+          clean (failed_here i m here ∙ or_from _ _ one.0 other.0) rest.0,
           ap pending r ∙ rest.1 ∙ ap (λ y. some n (suc m) (λ x. active x && staying row first second e x) || (y && keeps (suc m))) next
               ∙ stays_on (active m) (pending i) (when_active row (first m) (second m)).pending (when_pending row (first m) (second m)).pending (some n (suc m) (λ x. active x && staying row first second e x)) (keeps (suc m))
               ∙ sym (ap (λ k. ((active m && staying row first second e m) || some n (suc m) (λ x. active x && staying row first second e x)) || (pending i && k)) (keeps_now m (omega arith))),
@@ -154,7 +149,7 @@ module _ (row : Row) (reads : Reads) (course : Course) where
     unfolding word_report
     whole =
         let told = some_given _ given in
-        let none = and_both (not (some 64 c (λ x. active x && failing row first second (c + 64) x))) (not (report.pending && lost (c + 64) w.recorded c)) told.0 in
+        let none = and_parts (not (some 64 c (λ x. active x && failing row first second (c + 64) x))) (not (report.pending && lost (c + 64) w.recorded c)) told.0 in
         let not-lost = not-true (report.pending && lost (c + 64) w.recorded c) none.1 in
         let x = goes (c + 64) w.recorded 64 i c refl (λ u. r.at) (not-true (some 64 c (λ x. active x && failing row first second (c + 64) x)) none.0) (ap (λ p. p && lost (c + 64) w.recorded c) (sym r.pending) ∙ not-lost) in
         (x.0, x.1 ∙ ap (λ p. pending_from row first second (c + 64) 64 c active p) (sym r.pending) ∙ told.1)
@@ -189,7 +184,7 @@ module _ (row : Row) (reads : Reads) (course : Course) where
         none (inr x) j a b = omega (arith, leb-false course.from i e)
     accepted_to true e h = record {
       seen = λ q. by (or_cases (report.accepted || (row_monitor row false false most).accept) (not behind) h);
-      unseen = λ q. absurd (true≢false (or_none report.accepted true q).1);
+      unseen = λ q. absurd (true≢false (or_parts report.accepted true q).1);
     }
       where
         Seen : Type 0
