@@ -6,7 +6,6 @@ use native.Mathlib.Omega.{arith}
 use Rattle.std.proofs.Common.{Result, Ok, Err}
 use Rattle.tables.specs.Choice.{pick}
 use Rattle.tables.specs.Bit.{bit_at}
-use Rattle.tables.specs.declared.row.Row.{Row}
 use Rattle.tables.specs.declared.row.NormalForm.{NormalForm}
 use Rattle.tables.specs.declared.trace.Activation.{Activation}
 use Rattle.tables.specs.declared.trace.Trace.{Trace}
@@ -18,11 +17,11 @@ use Rattle.monitors.specs.Sheet.{activator_at}
 use Rattle.checking.specs.declared.finding.Finding.{Finding}
 use Rattle.checking.specs.declared.finding.Finding.TheVariants.{Root}
 use Rattle.row_monitor.specs.declared.row.Course.{Course}
-use Rattle.row_monitor.specs.declared.row.Reads.{Reads}
+use Rattle.row_monitor.specs.declared.row.RowMonitor.{RowMonitor}
 use Rattle.row_monitor.specs.declared.row.RowReport.{RowReport}
 use Rattle.checking.specs.declared.survey.Survey.{Survey}
 use Rattle.row_monitor.specs.RowReport.{RowReportOf}
-use Rattle.checking.specs.Survey.{noted, reads_at, SurveyTo}
+use Rattle.checking.specs.Survey.{noted, monitor_at, SurveyTo}
 use Rattle.checking.specs.Finding.{FindingOf}
 use Rattle.checking.specs.Conclusion.{course_of, concluded}
 use Rattle.row_monitor.proofs.ReportLoop.{ReportTo, report_start, report_fails, report_goes, report_ends}
@@ -32,23 +31,23 @@ use Rattle.checking.proofs.Conclusions.{concluded_finding}
 
 -- ---- one row
 
-module _ (row : Row) (reads : Reads) (course : Course) where
+module _ (monitor : RowMonitor) (course : Course) where
   abbrev pub Reported : Type 0
-  Reported = (report : Result RowReport ℕ) × RowReportOf row reads course report
+  Reported = (report : Result RowReport ℕ) × RowReportOf monitor course report
 
-  unfoldable pub report_from : (left i c : ℕ) (report : RowReport) → i + left ≡ course.end → ReportTo row reads course i c report → Reported
-  report_from zero i c report e to = (Ok report, report_ends row reads course to (omega arith))
-  report_from (suc left) i c report e to = by said.failed refl (λ f. report_from left (i + 1) _ _ (omega arith) (report_goes row reads course to (omega arith) {said = said} refl f refl))
+  unfoldable pub report_from : (left i c : ℕ) (report : RowReport) → i + left ≡ course.end → ReportTo monitor course i c report → Reported
+  report_from zero i c report e to = (Ok report, report_ends monitor course to (omega arith))
+  report_from (suc left) i c report e to = by said.failed refl (λ f. report_from left (i + 1) _ _ (omega arith) (report_goes monitor course to (omega arith) {said = said} refl f refl))
     where
       said : Output
-      said = row_monitor row (bit_at reads.first c) (bit_at reads.second c) (record { active = bit_at reads.active c; pending = report.pending })
+      said = row_monitor monitor.row (bit_at monitor.first c) (bit_at monitor.second c) (record { active = bit_at monitor.active c; pending = report.pending })
 
       by : (b : Bool) → said.failed ≡ b → (said.failed ≡ false → Reported) → Reported
-      by true f goes = (Err i, report_fails row reads course to (omega arith) {said = said} refl f)
+      by true f goes = (Err i, report_fails monitor course to (omega arith) {said = said} refl f)
       by false f goes = goes f
 
   unfoldable pub reported : Reported
-  reported = report_from course.end 0 0 _ (omega arith) (report_start row reads course)
+  reported = report_from course.end 0 0 _ (omega arith) (report_start monitor course)
 
 -- ---- all rows
 
@@ -59,8 +58,7 @@ module _ (g : NormalForm) (t : Trace) (a : Activation) (course : Course) where
   unfoldable pub survey_from : (left m : ℕ) (s : Survey) → m + left ≡ g.rows → SurveyTo g t a course m s → Surveyed
   survey_from zero m s e to = let q : m ≡ g.rows = omega arith in (s, subst (λ n. SurveyTo g t a course n s) q to)
   survey_from (suc left) m s e to =
-      let r : Row = table_of g.places (suc m) in
-      let x = reported r (reads_at t a r (suc m)) course in
+      let x = reported (monitor_at t a (table_of g.places (suc m)) (suc m)) course in
       survey_from left (suc m) (noted s (suc m) x.0) (omega arith) (survey_next g t a course to x.0 x.1)
 
   unfoldable pub surveyed : Surveyed

@@ -24,12 +24,12 @@ use Rattle.monitors.specs.Monitor.{row_monitor, monitor}
 use Rattle.monitors.specs.Along.{state_before}
 use Rattle.monitors.specs.Sheet.{activator_at}
 use Rattle.row_monitor.specs.declared.row.Course.{Course}
-use Rattle.row_monitor.specs.declared.row.Reads.{Reads}
+use Rattle.row_monitor.specs.declared.row.RowMonitor.{RowMonitor}
 use Rattle.row_monitor.specs.declared.row.RowReport.{RowReport}
 use Rattle.checking.specs.declared.survey.Failure.{Failure}
 use Rattle.checking.specs.declared.survey.Survey.{Survey}
 use Rattle.row_monitor.specs.RowReport.{row_pending, course_output, course_pending, FailsAt, GoesThrough, RowReportOf}
-use Rattle.checking.specs.Survey.{earlier, noted, reads_at, UpTo, LowestOf, said, waiting, Accepts, Starves, NoFailure, FirstFailure, SurveyTo}
+use Rattle.checking.specs.Survey.{earlier, noted, monitor_at, UpTo, LowestOf, said, waiting, Accepts, Starves, NoFailure, FirstFailure, SurveyTo}
 
 -- what is so of the first m rows and of row m + 1
 with_row : (P : ℕ → Type 0) {m : ℕ} → ((k : ℕ) → UpTo m k → P k) → P (suc m) → (k : ℕ) → UpTo (suc m) k → P k
@@ -51,7 +51,7 @@ module _ (Good Bad : ℕ → Type 0) {m : ℕ} where
 -- ---- what a row's monitor reads
 
 module _ (t : Trace) (a : Activation) where
-  at_numbers : (r : Row) (k c : ℕ) (s : RowState) → let x = reads_at t a r k in
+  at_numbers : (r : Row) (k c : ℕ) (s : RowState) → let x = monitor_at t a r k in
       row_monitor r (bit_at x.first c) (bit_at x.second c) s ≡ monitor (activator_at a c) (signal_at t c) r s
   at_numbers (Constant q) k c s = refl
   at_numbers (Signal q b) k c s = refl
@@ -62,23 +62,23 @@ module _ (t : Trace) (a : Activation) where
     abbrev row : Row
     row = table_of g.places k
 
-    abbrev reads : Reads
-    reads = reads_at t a row k
+    abbrev watch : RowMonitor
+    watch = monitor_at t a row k
 
     step : (i : ℕ) (p q : Bool) → p ≡ q → let c = position course.cycles course.start i in
-        row_monitor row (bit_at reads.first c) (bit_at reads.second c) (record { active = bit_at reads.active c; pending = p })
+        row_monitor row (bit_at watch.first c) (bit_at watch.second c) (record { active = bit_at watch.active c; pending = p })
         ≡ monitor (activator_at a c) (signal_at t c) row (record { active = activator_at a c k; pending = q })
     step i p q e =
         let c : ℕ = position course.cycles course.start i in
-        at_numbers row k c (record { active = bit_at reads.active c; pending = p })
+        at_numbers row k c (record { active = bit_at watch.active c; pending = p })
         ∙ ap (λ b. monitor (activator_at a c) (signal_at t c) row (record { active = activator_at a c k; pending = b })) e
 
-    pub pending_same : (i : ℕ) → course_pending row reads course i ≡ waiting g t a course i k
+    pub pending_same : (i : ℕ) → course_pending watch course i ≡ waiting g t a course i k
     unfolding row_pending state_before
     pending_same zero = refl
     pending_same (suc i) = ap (λ (o : Output). o.pending) (step i _ _ (pending_same i))
 
-    pub output_same : (i : ℕ) → course_output row reads course i ≡ said g t a course i k
+    pub output_same : (i : ℕ) → course_output watch course i ≡ said g t a course i k
     output_same i = step i _ _ (pending_same i)
 
 -- ---- one row more
@@ -92,22 +92,19 @@ module _ (g : NormalForm) (t : Trace) (a : Activation) (course : Course) where
   }
 
   module _ {m : ℕ} {s : Survey} (to : SurveyTo g t a course m s) where
-    abbrev next_row : Row
-    next_row = table_of g.places (suc m)
+    abbrev next : RowMonitor
+    next = monitor_at t a (table_of g.places (suc m)) (suc m)
 
-    abbrev next_reads : Reads
-    next_reads = reads_at t a next_row (suc m)
-
-    row_said : (i : ℕ) → course_output next_row next_reads course i ≡ said g t a course i (suc m)
+    row_said : (i : ℕ) → course_output next course i ≡ said g t a course i (suc m)
     row_said = output_same t a g course (suc m)
 
-    clean_row : {e : ℕ} → ((i : ℕ) → i < e → (course_output next_row next_reads course i).failed ≡ false)
+    clean_row : {e : ℕ} → ((i : ℕ) → i < e → (course_output next course i).failed ≡ false)
         → (i : ℕ) → i < e → ((k : ℕ) → UpTo m k → (said g t a course i k).failed ≡ false)
         → (k : ℕ) → UpTo (suc m) k → (said g t a course i k).failed ≡ false
     clean_row clean i h before = with_row (λ k. (said g t a course i k).failed ≡ false) before (sym (ap (λ (o : Output). o.failed) (row_said i)) ∙ clean i h)
 
     -- the row fails
-    module _ {cycle : ℕ} (x : FailsAt next_row next_reads course cycle) where
+    module _ {cycle : ℕ} (x : FailsAt next course cycle) where
       abbrev failure : Failure
       failure = record { row = suc m; cycle = cycle }
 
@@ -140,7 +137,7 @@ module _ (g : NormalForm) (t : Trace) (a : Activation) (course : Course) where
       survey_fails = record { failure = earliest s.failure to.failure; starved = λ e. absurd (cc e); pending = λ e. absurd (cc e) }
 
     -- the row goes through
-    module _ {r : RowReport} (x : GoesThrough next_row next_reads course r) where
+    module _ {r : RowReport} (x : GoesThrough next course r) where
       stays : (o : Option Failure) → MatchOption o (NoFailure g t a course m) (FirstFailure g t a course m) → MatchOption o (NoFailure g t a course (suc m)) (FirstFailure g t a course (suc m))
       stays None clean = λ i k h q. clean_row x.clean i h (λ k q. clean i k h q) k q
       stays (Some f) before = record {
@@ -165,6 +162,6 @@ module _ (g : NormalForm) (t : Trace) (a : Activation) (course : Course) where
         pending = λ e. lowest_next (λ k. waiting g t a course course.end k ≡ false) (λ k. waiting g t a course course.end k ≡ true) s.pending (to.pending e) r.pending (λ q. waits ∙ q) (λ q. waits ∙ q);
       }
 
-    pub survey_next : (report : Result RowReport ℕ) → RowReportOf next_row next_reads course report → SurveyTo g t a course (suc m) (noted s (suc m) report)
+    pub survey_next : (report : Result RowReport ℕ) → RowReportOf next course report → SurveyTo g t a course (suc m) (noted s (suc m) report)
     survey_next (Ok r) x = survey_goes x
     survey_next (Err cycle) x = survey_fails x

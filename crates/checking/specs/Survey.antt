@@ -17,7 +17,7 @@ use Rattle.monitors.specs.declared.Output.{Output}
 use Rattle.monitors.specs.Along.{Activators, pending_before, output}
 use Rattle.monitors.specs.Sheet.{activator_at}
 use Rattle.row_monitor.specs.declared.row.Course.{Course}
-use Rattle.row_monitor.specs.declared.row.Reads.{Reads}
+use Rattle.row_monitor.specs.declared.row.RowMonitor.{RowMonitor}
 use Rattle.row_monitor.specs.declared.row.RowReport.{RowReport}
 use Rattle.checking.specs.declared.survey.Failure.{Failure}
 use Rattle.checking.specs.declared.survey.Survey.{Survey}
@@ -53,9 +53,9 @@ second_lane a (Signal c s) = lane_of (λ i. false)
 second_lane a (Unary c b) = lane_of (λ i. false)
 second_lane a (Binary c b d) = lane_in a.lanes (d - 1)
 
--- what the monitor of a row reads, the row being number k
-abbrev pub reads_at : Trace → Activation → Row → ℕ → Reads
-reads_at t a r k = record { active = lane_in a.lanes (k - 1); first = first_lane t a r; second = second_lane a r }
+-- the monitor of a row with the lanes that it reads, the row being number k
+abbrev pub monitor_at : Trace → Activation → Row → ℕ → RowMonitor
+monitor_at t a r k = record { row = r; active = lane_in a.lanes (k - 1); first = first_lane t a r; second = second_lane a r }
 
 -- row k is among the first m; rows count from 1
 abbrev pub UpTo : ℕ → ℕ → Type 0

@@ -3,10 +3,10 @@ ghost use Rattle.std.specs.Prelude.{◌≡◌, suc, ◌<◌, ◌≤◌};
 ghost use Rattle.meaning.specs.Rows.{Each, EachSignal};
 ghost use Rattle.normal_form.specs.Form.{InNormalForm};
 ghost use Rattle.row_monitor.specs.RowReport.{CourseOf};
-ghost use Rattle.checking.specs.Survey.{SurveyTo, earlier as earlierOf, noted, reads_at};
+ghost use Rattle.checking.specs.Survey.{SurveyTo, earlier as earlierOf, monitor_at, noted};
 
 use row_monitor::row;
-use row_monitor::row::{Course, Reads, RowReport};
+use row_monitor::row::{Course, RowMonitor, RowReport};
 use tables::row::{NormalForm, Row};
 use tables::trace::{Activation, Trace};
 
@@ -51,12 +51,12 @@ impl Survey {
     }
 }
 
-// What the monitor of the row in place k reads.
-fn reads_of(row: Row, k: usize, trace: &Trace, sheet: &Activation) -> Reads
+// The monitor of the row in place k.
+fn monitor_of(row: Row, k: usize, trace: &Trace, sheet: &Activation) -> RowMonitor
     requires place { k < 128 }
     requires operands { Each (λ a. (1 ≤ a) × (a ≤ 128)) row }
     requires signals { EachSignal (λ s. (1 ≤ s) × (s ≤ 32)) row }
-    ensures answer { result ≡ reads_at trace.now sheet.now row (suc k) }
+    ensures answer { result ≡ monitor_at trace.now sheet.now row (suc k) }
 {
     let none = lanes::lane::none();
     let (first, second) = match row {
@@ -65,7 +65,8 @@ fn reads_of(row: Row, k: usize, trace: &Trace, sheet: &Activation) -> Reads
         Row::Unary(_, a) => (sheet.lanes[a as usize - 1], none),
         Row::Binary(_, a, b) => (sheet.lanes[a as usize - 1], sheet.lanes[b as usize - 1]),
     };
-    Reads {
+    RowMonitor {
+        row,
         active: sheet.lanes[k],
         first,
         second,
@@ -83,9 +84,8 @@ pub fn survey_rows(form: NormalForm, trace: Trace, sheet: Activation, course: Co
         pending: None,
     };
     for k in 0..form.rows as usize {
-        let row = form.places[k].row;
-        let reads = reads_of(row, k, &trace, &sheet);
-        let report = row::monitor_row(row, reads, course);
+        let monitor = monitor_of(form.places[k].row, k, &trace, &sheet);
+        let report = row::monitor_row(monitor, course);
         survey.note(k as u8 + 1, report);
     }
     survey

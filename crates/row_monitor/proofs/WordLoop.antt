@@ -21,7 +21,7 @@ use Rattle.meaning.proofs.Periodic.{position_next}
 use Rattle.monitors.specs.declared.Output.{Output}
 use Rattle.monitors.specs.Monitor.{row_monitor}
 use Rattle.row_monitor.specs.declared.row.Course.{Course}
-use Rattle.row_monitor.specs.declared.row.Reads.{Reads}
+use Rattle.row_monitor.specs.declared.row.RowMonitor.{RowMonitor}
 use Rattle.row_monitor.specs.declared.row.RowReport.{RowReport}
 use Rattle.row_monitor.specs.RowReport.{row_pending, AcceptedTo, course_output, course_pending}
 use Rattle.row_monitor.specs.Word.{some, when_active, when_pending, dropped, held, failing, staying, pending_from, word_report, WholeWord}
@@ -56,21 +56,24 @@ some_given : (b : Bool) {x y : Bool} → then_some b x ≡ Some y → (b ≡ tru
 some_given true e = (refl, cc)
 some_given false e = cc
 
-module _ (row : Row) (reads : Reads) (course : Course) where
+module _ (monitor : RowMonitor) (course : Course) where
+  abbrev row : Row
+  row = monitor.row
+
   abbrev active : ℕ → Bool
-  active = bit_at reads.active
+  active = bit_at monitor.active
 
   abbrev first : ℕ → Bool
-  first = bit_at reads.first
+  first = bit_at monitor.first
 
   abbrev second : ℕ → Bool
-  second = bit_at reads.second
+  second = bit_at monitor.second
 
   abbrev out : ℕ → Output
-  out = course_output row reads course
+  out = course_output monitor course
 
   abbrev pending : ℕ → Bool
-  pending = course_pending row reads course
+  pending = course_pending monitor course
 
   abbrev at : ℕ → ℕ
   at = position course.cycles course.start
@@ -144,7 +147,7 @@ module _ (row : Row) (reads : Reads) (course : Course) where
 
   -- ---- the word's cycles are gone through
 
-  module _ {i c : ℕ} {report : RowReport} (r : ReportTo row reads course i c report) (w : WholeWord c i course) {behind : Bool} (given : word_report row reads c report.pending ≡ Some behind) where
+  module _ {i c : ℕ} {report : RowReport} (r : ReportTo monitor course i c report) (w : WholeWord c i course) {behind : Bool} (given : word_report monitor c report.pending ≡ Some behind) where
     whole : Clean (c + 64) w.recorded 64 i × (pending (i + 64) ≡ behind)
     unfolding word_report
     whole =
@@ -166,7 +169,7 @@ module _ (row : Row) (reads : Reads) (course : Course) where
     abbrev Settled : Bool → Type 0
     Settled counts = (((not counts || report.accepted) || (row_monitor row false false most).accept) || not behind) ≡ true
 
-    accepted_to : (counts : Bool) → leb course.from i ≡ counts → Settled counts → AcceptedTo row reads course (i + 64) (report.accepted || counts)
+    accepted_to : (counts : Bool) → leb course.from i ≡ counts → Settled counts → AcceptedTo monitor course (i + 64) (report.accepted || counts)
     accepted_to false e h = record {
       seen = λ q. before (by (or_cases report.accepted false q));
       unseen = λ q j a b. absurd (none w.counting j a b);
@@ -202,7 +205,7 @@ module _ (row : Row) (reads : Reads) (course : Course) where
         by (inr x) = last (inr (not-true behind x))
 
     pub word_goes : {c' : ℕ} → Settled (leb course.from i) → c' ≡ pick (ltb (suc (c + 63)) course.cycles) (suc (c + 63)) course.start
-        → ReportTo row reads course (i + 64) c' (record { pending = behind; accepted = report.accepted || leb course.from i })
+        → ReportTo monitor course (i + 64) c' (record { pending = behind; accepted = report.accepted || leb course.from i })
     unfolding position
     word_goes {c'} h next =
         let q : suc (i + 63) ≡ i + 64 = omega arith in

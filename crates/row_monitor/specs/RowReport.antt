@@ -6,7 +6,7 @@ use Rattle.meaning.specs.Trace.{position}
 use Rattle.monitors.specs.declared.Output.{Output}
 use Rattle.monitors.specs.Monitor.{row_monitor}
 use Rattle.row_monitor.specs.declared.row.Course.{Course}
-use Rattle.row_monitor.specs.declared.row.Reads.{Reads}
+use Rattle.row_monitor.specs.declared.row.RowMonitor.{RowMonitor}
 use Rattle.row_monitor.specs.declared.row.RowReport.{RowReport}
 
 -- the row is active, and what stands at its numbers, in each cycle
@@ -29,14 +29,14 @@ pub record CourseOf (course : Course) : Type 0 where
 abbrev pub along : Course → (ℕ → Bool) → ℕ → Bool
 along course f i = f (position course.cycles course.start i)
 
-module _ (row : Row) (reads : Reads) (course : Course) where
+module _ (monitor : RowMonitor) (course : Course) where
   abbrev pub course_output : ℕ → Output
-  course_output i = row_output row (along course (bit_at reads.active)) (along course (bit_at reads.first))
-      (along course (bit_at reads.second)) i
+  course_output i = row_output monitor.row (along course (bit_at monitor.active)) (along course (bit_at monitor.first))
+      (along course (bit_at monitor.second)) i
 
   abbrev pub course_pending : ℕ → Bool
-  course_pending i = row_pending row (along course (bit_at reads.active)) (along course (bit_at reads.first))
-      (along course (bit_at reads.second)) i
+  course_pending i = row_pending monitor.row (along course (bit_at monitor.active)) (along course (bit_at monitor.first))
+      (along course (bit_at monitor.second)) i
 
   -- some accept of the cycles that count, up to i
   pub record AcceptedTo (i : ℕ) (accepted : Bool) : Type 0 where

@@ -7,7 +7,7 @@ use Rattle.meaning.specs.Approximant.{approximant}
 use Rattle.monitors.specs.declared.Output.{Output}
 use Rattle.monitors.specs.Monitor.{row_monitor}
 use Rattle.row_monitor.specs.declared.row.Course.{Course}
-use Rattle.row_monitor.specs.declared.row.Reads.{Reads}
+use Rattle.row_monitor.specs.declared.row.RowMonitor.{RowMonitor}
 use Rattle.row_monitor.specs.declared.word.Moves.{Moves}
 
 -- f is on in one of the n cycles from b on
@@ -53,10 +53,10 @@ module _ (row : Row) (f g : ℕ → Bool) (e : ℕ) where
   pending_from n b z p = some n b (λ i. z i && staying i) || (p && held b)
 
 -- whether it is pending behind the word at b, where none of its cycles fails
-unfoldable pub word_report : Row → Reads → ℕ → Bool → Option Bool
-word_report row reads b p = then_some
-    (clean_from row (bit_at reads.first) (bit_at reads.second) (b + 64) 64 b (bit_at reads.active) p)
-    (pending_from row (bit_at reads.first) (bit_at reads.second) (b + 64) 64 b (bit_at reads.active) p)
+unfoldable pub word_report : RowMonitor → ℕ → Bool → Option Bool
+word_report monitor b p = then_some
+    (clean_from monitor.row (bit_at monitor.first) (bit_at monitor.second) (b + 64) 64 b (bit_at monitor.active) p)
+    (pending_from monitor.row (bit_at monitor.first) (bit_at monitor.second) (b + 64) 64 b (bit_at monitor.active) p)
 
 -- the 64 cycles from cycle i of the course on are the word of the recording that begins at c, and either all of them count or none
 pub record WholeWord (c i : ℕ) (course : Course) : Type 0 where

@@ -11,19 +11,20 @@ use monitors::{Output, RowState};
 use tables::row::Row;
 use tables::trace::Lane;
 
-// The lanes that a row's monitor reads: its own activator, and what stands at its numbers.
+// The monitor of a row, with the lanes that it reads: the row's own activator, and what stands at its numbers.
 #[derive(Clone, Copy)]
-pub struct Reads {
+pub struct RowMonitor {
+    pub row: Row,
     pub active: Lane,
     pub first: Lane,
     pub second: Lane,
 }
 
-impl Reads {
-    // What the row's monitor says in cycle c of the take.
-    fn say(&self, row: Row, c: u16, pending: bool) -> Output
+impl RowMonitor {
+    // What it says in cycle c of the take.
+    fn say(&self, c: u16, pending: bool) -> Output
         requires { c < 256 }
-        ensures answer { result ≡ row_monitor row (bit_at self.now.first c) (bit_at self.now.second c)
+        ensures answer { result ≡ row_monitor self.now.row (bit_at self.now.first c) (bit_at self.now.second c)
             (record { active = bit_at self.now.active c; pending = pending }) }
     {
         let state = RowState {
@@ -32,7 +33,7 @@ impl Reads {
         };
         let first = lanes::lane::bit(self.first, c as usize);
         let second = lanes::lane::bit(self.second, c as usize);
-        monitors::row(row, first, second, state)
+        monitors::row(self.row, first, second, state)
     }
 }
 
@@ -80,9 +81,9 @@ pub struct RowReport {
 
 // The report, or the first cycle in which the monitor fails. It goes word by word where nothing fails in the word and an accept that
 // counts needs no search, else cycle by cycle.
-pub fn monitor_row(row: Row, reads: Reads, course: Course) -> Result<RowReport, u16>
+pub fn monitor_row(monitor: RowMonitor, course: Course) -> Result<RowReport, u16>
     requires { CourseOf course }
-    ensures report { RowReportOf row reads course result }
+    ensures report { RowReportOf monitor course result }
 {
     let mut report = RowReport {
         pending: false,
@@ -93,14 +94,14 @@ pub fn monitor_row(row: Row, reads: Reads, course: Course) -> Result<RowReport, 
         active: true,
         pending: true,
     };
-    let waiting = monitors::row(row, false, false, most);
+    let waiting = monitors::row(monitor.row, false, false, most);
     let mut c = 0u16;
     let mut i = 0u16;
     // Stays: no range has these steps, 64 cycles or one.
     while i < course.end {
         let counts = course.from <= i;
         if course.whole_word(c, i)
-            && let Some(pending) = word::monitor_word(row, reads, (c / 64) as usize, report.pending)
+            && let Some(pending) = word::monitor_word(&monitor, (c / 64) as usize, report.pending)
             && (!counts | report.accepted | waiting.accept | !pending)
         {
             report.pending = pending;
@@ -109,7 +110,7 @@ pub fn monitor_row(row: Row, reads: Reads, course: Course) -> Result<RowReport, 
             i += 64;
             continue;
         }
-        let said = reads.say(row, c, report.pending);
+        let said = monitor.say(c, report.pending);
         if said.failed {
             return Err(i);
         }

@@ -3,7 +3,7 @@ ghost use Rattle.std.specs.Prelude.{◌≡◌, Bool, ℕ, ◌*◌, ◌<◌};
 ghost use Rattle.tables.specs.Bit.{bit_at, word_from};
 ghost use Rattle.row_monitor.specs.Word.{MovesOf, some, word_report};
 
-use crate::row::Reads;
+use crate::row::RowMonitor;
 use tables::row::{BinaryKind, ConstantKind, Row, SignalKind, UnaryKind};
 use tables::trace::Lane;
 
@@ -109,14 +109,14 @@ fn row_moves(row: Row, a: u64, b: u64) -> Moves
 
 // Whether the monitor is pending behind the word, where nothing fails in it. Each activation is followed forwards, all of them at once:
 // it fails or stays where it does so, or is pending and a pending does so from the next cycle on.
-pub fn monitor_word(row: Row, reads: Reads, at: usize, pending: bool) -> Option<bool>
+pub fn monitor_word(monitor: &RowMonitor, at: usize, pending: bool) -> Option<bool>
     requires { at < 4 }
-    ensures answer { result ≡ word_report row reads (at * 64) pending }
+    ensures answer { result ≡ word_report monitor.now (at * 64) pending }
 {
-    let active = word_of(reads.active, at);
-    let a = word_of(reads.first, at);
-    let b = word_of(reads.second, at);
-    let m = row_moves(row, a, b);
+    let active = word_of(monitor.active, at);
+    let a = word_of(monitor.first, at);
+    let b = word_of(monitor.second, at);
+    let m = row_moves(monitor.row, a, b);
     let dropped = lanes::word::carry_from(m.holds, m.drops, 0);
     let held = lanes::word::carry_from(m.holds, 0, 1);
     let failing = m.fails | (m.waits & lanes::word::next_from(dropped, 0));

@@ -7,15 +7,15 @@ use Rattle.checking.specs.Survey.{SurveyTo}
 use Rattle.checking.proofs.SurveyLoop.{survey_next}
 use Rattle.checking.proofs.survey.survey_rows.Goals as goal
 
-pub reads_of-reads-requires-clause-operands : goal.reads_of-reads-requires-clause-operands
-reads_of-reads-requires-clause-operands c = row_operands c.args.form c.requires.0 c.loop-k.k (search rules)
+pub monitor_of-monitor-requires-clause-operands : goal.monitor_of-monitor-requires-clause-operands
+monitor_of-monitor-requires-clause-operands c = row_operands c.args.form c.requires.0 c.loop-k.k (search rules)
 
-pub reads_of-reads-requires-clause-signals : goal.reads_of-reads-requires-clause-signals
-reads_of-reads-requires-clause-signals c = row_signals c.args.form c.requires.0 c.loop-k.k (search rules)
+pub monitor_of-monitor-requires-clause-signals : goal.monitor_of-monitor-requires-clause-signals
+monitor_of-monitor-requires-clause-signals c = row_signals c.args.form c.requires.0 c.loop-k.k (search rules)
 
 pub loop-k-preserved : goal.loop-k-preserved
 loop-k-preserved c =
-    let report = rw c.reads_of-reads.ensures.answer at c.monitor_row-report.ensures.report in
+    let report = rw c.monitor_of-monitor.ensures.answer at c.monitor_row-report.ensures.report in
     rw (c.note.ensures.answer, add-one c.loop-k.k) (survey_next c.args.form c.args.trace c.args.sheet c.args.course c.loop-k.invariant c.monitor_row-report.result report)
 
 pub returns : goal.returns
