@@ -54,9 +54,10 @@ impl Course {
         ensures answer { result ≡ pick (ltb (suc c) self.cycles) (suc c) self.start }
     {
         if c + 1 < self.cycles {
-            return c + 1;
+            c + 1
+        } else {
+            self.start
         }
-        self.start
     }
 
     // The next 64 cycles, from cycle i of the course and c of the take on, are one word of the recording, and all of them count or
