@@ -6,22 +6,18 @@ ghost use Rattle.take_file.specs.Valid.{InRange};
 ghost use Rattle.writing.specs.Lent.{Wrote};
 
 use tables::trace::Trace;
-use writing::put::put_byte;
+use writing::put::{put_bit, put_byte, put_number};
 
 // One digit for each signal.
 fn put_digits(buf: &mut [u8], at: usize, trace: Trace, cycle: usize) -> usize
     requires { (trace.signals ≤ 32) × (cycle < 256) × (at + trace.signals ≤ length buf.old) }
     ensures text { Wrote buf.old at (digits_text (cycle_of trace cycle)) buf.new result }
 {
-    let signals = trace.signals as usize;
-    let mut i = at;
-    let mut s = 0;
-    while s < signals {
-        let lane = trace.lanes[s];
-        i = writing::put::put_bit(&mut *buf, i, lanes::lane::bit(lane, cycle));
-        s += 1;
+    let mut end = at;
+    for lane in &trace.lanes[..trace.signals as usize] {
+        end = put_bit(&mut *buf, end, lanes::lane::bit(*lane, cycle));
     }
-    i
+    end
 }
 
 // The line of one cycle.
@@ -32,7 +28,7 @@ fn put_cycle(buf: &mut [u8], at: usize, trace: Trace, cycle: usize) -> usize
         buf.new result }
 {
     let a = put_byte(&mut *buf, at, b'c');
-    let b = writing::put::put_number(&mut *buf, a, cycle as u32);
+    let b = put_number(&mut *buf, a, cycle as u32);
     let c = put_byte(&mut *buf, b, b'=');
     let d = put_digits(&mut *buf, c, trace, cycle);
     put_byte(buf, d, b'\n')
@@ -43,14 +39,11 @@ pub fn put_cycles(buf: &mut [u8], at: usize, trace: Trace) -> usize
     requires { InRange trace × (at + length (written_body 99 digits_text 0 (cycles_of trace)) ≤ length buf.old) }
     ensures text { Wrote buf.old at (written_body 99 digits_text 0 (cycles_of trace)) buf.new result }
 {
-    let cycles = trace.cycles as usize;
-    let mut i = at;
-    let mut c = 0;
-    while c < cycles {
-        i = put_cycle(&mut *buf, i, trace, c);
-        c += 1;
+    let mut end = at;
+    for c in 0..trace.cycles as usize {
+        end = put_cycle(&mut *buf, end, trace, c);
     }
-    i
+    end
 }
 
 // How long they are: each has `c`, `=`, its digits, a line feed and its number, which has a digit more from 10 on and another from 100 on.
@@ -59,12 +52,5 @@ pub fn cycles_length(signals: u8, cycles: u16) -> usize
     ensures length { result ≡ cycles * (signals + 4) + (cycles - 10) + (cycles - 100) }
 {
     let n = cycles as usize;
-    let mut length = n * (signals as usize + 4);
-    if 10 < n {
-        length += n - 10;
-    }
-    if 100 < n {
-        length += n - 100;
-    }
-    length
+    n * (signals as usize + 4) + n.saturating_sub(10) + n.saturating_sub(100)
 }

@@ -1,9 +1,9 @@
-use Prim.Native.Nat.{◌-◌, ◌≤◌}
-use Rattle.take_writer.proofs.Cycles.{DigitsAt}
+use Rattle.std.proofs.Common.{take, map}
+use Rattle.tables.specs.Bit.{bit_at}
+use Rattle.tables.specs.declared.trace.Lane.{Lane}
+use Rattle.text.specs.Written.{digits_text}
+use Rattle.writing.specs.Lent.{Wrote}
 use Rattle.take_writer.proofs.cycle.put_digits.Given as goal
 
-abbrev pub invariant-loop-s : goal.invariant-loop-s
-invariant-loop-s l = (l.s ≤ l.trace.signals) × DigitsAt l.trace.lanes l.cycle l.initial.buf l.at l.s l.buf l.i
-
-abbrev pub decreases-loop-s : goal.decreases-loop-s
-decreases-loop-s l = l.trace.signals - l.s
+abbrev pub invariant-loop-lane : goal.invariant-loop-lane
+invariant-loop-lane l = Wrote l.initial.buf l.at (digits_text (map (λ (a : Lane). bit_at a l.cycle) (take l.lane-index l.lane-items))) l.buf l.end
