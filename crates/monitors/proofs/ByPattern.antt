@@ -1,8 +1,9 @@
 -- The monitor of a positive row is that of its pattern over its two operands' activators (monitor-by-pattern), and what
 -- holds of every pattern's monitor holds of every row's (each-pattern). So proofs go by four patterns and not by kinds. Assumes nothing.
 use Prim.Native.Nat.{ℕ}
-use mathlib.Core.Path.{◌≡◌, refl, ap, subst⁻¹, fun_ext}
+use mathlib.Core.Path.{◌≡◌, refl, sym, ap, subst⁻¹, fun_ext}
 use mathlib.Core.Bool.{Bool, true, false, not, ◌&&◌, ◌||◌}
+use Rattle.std.proofs.Math.Bool.{and-true, and-false, not-not}
 use Rattle.tables.specs.declared.row.ConstantKind.{ConstantKind}
 use Rattle.tables.specs.declared.row.ConstantKind.TheVariants.{True, False}
 use Rattle.tables.specs.declared.row.SignalKind.{SignalKind}
@@ -40,14 +41,6 @@ module _ (a b : Bool) (s : RowState) where
   pattern_monitor (temporal f true) = waits (goes s && not (done_bit f a b)) (goes s && not (need_bit f a b))
   pattern_monitor (temporal f false) = awaits (goes s && not (done_bit f a b)) (goes s && not (need_bit f a b))
 
-and_true : (x : Bool) → x ≡ (x && true)
-and_true true = refl
-and_true false = refl
-
-and_false : (x : Bool) → false ≡ (x && false)
-and_false true = refl
-and_false false = refl
-
 two_nots : (x a b : Bool) → ((x && not b) && not a) ≡ (x && not (a || b))
 two_nots true true true = refl
 two_nots true true false = refl
@@ -55,27 +48,23 @@ two_nots true false true = refl
 two_nots true false false = refl
 two_nots false a b = refl
 
-double_not : (x b : Bool) → (x && b) ≡ (x && not (not b))
-double_not x true = refl
-double_not x false = refl
-
 -- ---- each kind
 
 constant_by_pattern : (c : ConstantKind) (s : RowState) → constant_monitor c s ≡ checks (s.active && not (constant_bit c))
-constant_by_pattern True s = ap checks (and_false s.active)
-constant_by_pattern False s = ap checks (and_true s.active)
+constant_by_pattern True s = ap checks (sym (and-false s.active))
+constant_by_pattern False s = ap checks (sym (and-true s.active))
 
 signal_by_pattern : (c : SignalKind) (on : Bool) (s : RowState) → signal_monitor c on s ≡ checks (s.active && not (signed_bit (signal_sign c) on))
 signal_by_pattern Sig on s = refl
-signal_by_pattern Nsig on s = ap checks (double_not s.active on)
+signal_by_pattern Nsig on s = ap (λ b. checks (s.active && b)) (sym (not-not on))
 
 unary_by_pattern :
     (c : UnaryKind) → On (positive c) → (a : Bool) (s : RowState)
     → unary_monitor c a s ≡ pattern_monitor (unary_left c) (signed_bit (positive c) a) s (unary_pattern c)
 unary_by_pattern Not o a s = on_and_off o refl
 unary_by_pattern Next o a s = refl
-unary_by_pattern Always o a s = ap (λ x. waits x (goes s && not a)) (and_true (goes s))
-unary_by_pattern Ever o a s = ap (awaits (goes s && not a)) (and_false (goes s))
+unary_by_pattern Always o a s = ap (λ x. waits x (goes s && not a)) (sym (and-true (goes s)))
+unary_by_pattern Ever o a s = ap (awaits (goes s && not a)) (sym (and-false (goes s)))
 
 binary_by_pattern : (c : BinaryKind) (a b : Bool) (s : RowState) → binary_monitor c a b s ≡ pattern_monitor a b s (binary_pattern c)
 binary_by_pattern And a b s = refl
@@ -102,7 +91,7 @@ module _ (P : (RowState → Output) → Type 0) (each : (a b : Bool) (x : Patter
   positive_pattern c o a = subst⁻¹ P (fun_ext (unary_by_pattern c o a)) (each (unary_left c) (signed_bit (positive c) a) (unary_pattern c))
 
   unary_pattern_lem : (c : UnaryKind) (a : Bool) → P (unary_monitor c a)
-  unary_pattern_lem Not a = subst⁻¹ P (fun_ext (λ s. ap checks (and_false s.active))) (each true true now)
+  unary_pattern_lem Not a = subst⁻¹ P (fun_ext (λ s. ap checks (sym (and-false s.active)))) (each true true now)
   unary_pattern_lem Next a = positive_pattern Next refl a
   unary_pattern_lem Always a = positive_pattern Always refl a
   unary_pattern_lem Ever a = positive_pattern Ever refl a

@@ -5,6 +5,7 @@ use mathlib.Core.Path.{◌≡◌, refl, sym, ap, ap₂, ◌∙◌}
 use mathlib.Core.Logic.{◌⊎◌, inl, inr}
 use mathlib.Core.Bool.{Bool, true, false, not, ◌&&◌, ◌||◌}
 use native.Mathlib.Omega.{arith}
+use Rattle.std.proofs.lemmas.Bool.{not-true, and_parts, or_cases}
 use Rattle.tables.specs.declared.row.UnaryKind.{UnaryKind}
 use Rattle.tables.specs.declared.row.UnaryKind.TheVariants.{Not, Next, Always, Ever}
 use Rattle.tables.specs.declared.row.Row.{Row}
@@ -32,19 +33,6 @@ no_fail : (z x : Bool) → (On z → On x) → (z && not x) ≡ false
 no_fail true true f = refl
 no_fail true false f = sym (f refl)
 no_fail false x f = refl
-
-and_not : (a b : Bool) → On (a && not b) → On a × (b ≡ false)
-and_not true true e = on_and_off e refl
-and_not true false e = (refl, refl)
-and_not false b e = on_and_off e refl
-
-one_of : (a b : Bool) → On (a || b) → On a ⊎ On b
-one_of true b e = inl refl
-one_of false b e = inr e
-
-and_right : (a b : Bool) → On (a && b) → On b
-and_right true b e = e
-and_right false b e = on_and_off e refl
 
 goal_done : (f a b : Bool) → On (goal_bit f a b) → On (done_bit f a b)
 goal_done true a b e = e
@@ -132,7 +120,7 @@ module _ (N start : ℕ) (N>0 : 0 < N) (depth : ℕ → ℕ) (enough : (i : ℕ)
     met i e = (approximant_is (keep_bits f a b) (goal_bits f a b) N start N>0 keep_periodic goal_periodic w (depth i) i (enough i)).0 e
 
     due_where_goes : (i : ℕ) → (On (z i) → On (due_bit i)) → (On (y i) → On (due_bit i)) → On (z i || y i) → On (due_bit i)
-    due_where_goes i p q g = by (one_of (z i) (y i) g)
+    due_where_goes i p q g = by (or_cases (z i) (y i) g)
       where
         by : On (z i) ⊎ On (y i) → On (due_bit i)
         by (inl h) = p h
@@ -157,9 +145,9 @@ module _ (N start : ℕ) (N>0 : 0 < N) (depth : ℕ → ℕ) (enough : (i : ℕ)
   due_next next h i d e = h.bit i e
   due_next (connective f) h i d e = on_and_off e refl
   due_next (temporal f true) h i d e =
-      let g = and_not (z i || y i) _ e in due_later f true i (due_where_goes f true i (h.bit i) d g.0) g.1
+      let g = and_parts (z i || y i) _ e in due_later f true i (due_where_goes f true i (h.bit i) d g.0) (not-true _ g.1)
   due_next (temporal f false) h i d e =
-      let g = and_not (z i || y i) _ e in due_later f false i (due_where_goes f false i (h.bit i) d g.0) g.1
+      let g = and_parts (z i || y i) _ e in due_later f false i (due_where_goes f false i (h.bit i) d g.0) (not-true _ g.1)
 
   due : (p : Pattern) → Makes p → (i : ℕ) → On (y i) → Due p i
   due p h zero e = on_and_off e fresh
@@ -237,7 +225,7 @@ module _ (live : ℕ → Bool) (w : InfiniteTrace) (t : Table) (m : ℕ) (bits :
       (bits k) pending ((handed_on t m w act).fresh.same_pending k k<m) (pattern_of (t k))
   makes = record {
     hands = λ i. ((handed_on t m w act).next i).same_pending k k<m ∙ ap (λ o. o.pending) (said i);
-    bit = λ i on. and_right (live i) _ (sym (e.computes k k<m i) ∙ on);
+    bit = λ i on. (and_parts (live i) _ (sym (e.computes k k<m i) ∙ on)).1;
   }
 
   pub bits_never_fail : (i : ℕ) → (output t w act i k).failed ≡ false

@@ -9,6 +9,7 @@ use native.Mathlib.Decide.{le_ind}
 use native.Mathlib.Omega.{arith}
 use lib.Dec.{ltb}
 use borrow.Author.Tests.{lt-ltb, le-ltb}
+use Rattle.std.proofs.lemmas.Bool.{and_parts}
 use Rattle.meaning.specs.Reading.{Reading, classical, Some}
 use Rattle.meaning.specs.Trace.{InfiniteTrace, position}
 use Rattle.meaning.specs.Satisfaction.{Table, RowTrue}
@@ -106,10 +107,6 @@ rests (connective g) a b false false e f = (refl, refl, refl)
 rests (temporal g true) a b false false e f = (refl, refl, refl)
 rests (temporal g false) a b false false e f = (refl, refl, refl)
 
-and_left : (x y : Bool) → On (x && y) → On x
-and_left true y e = refl
-and_left false y e = e
-
 -- the first n cycles of w
 module _ (n : ℕ) (w : InfiniteTrace) (t : Table) where
   -- the rows below m
@@ -168,7 +165,7 @@ module _ (n : ℕ) (w : InfiniteTrace) (t : Table) where
       -- a passing sheet marks only what is strongly true
       pub prefix_passing_active : (R : Reading) (k : ℕ) → k < m → (i : ℕ) → i < n → On (sheet i k) → RowStronglyTrue R n w t k i
       prefix_passing_active R k h i l on = (prefix_readings n w t m ordered positive classical R k h i l).0
-          (along_active_true t m (prefix n w) (cut sheet) ordered positive cut_unfailing classical classical_full (cycles_below n) (λ k i h. and_left (ltb i n) _)
+          (along_active_true t m (prefix n w) (cut sheet) ordered positive cut_unfailing classical classical_full (cycles_below n) (λ k i h e. (and_parts (ltb i n) _ e).0)
           (λ k. Inside n (RowStronglyTrue classical n w t k)) (strong_interprets classical n w (prefix n w) t m ordered positive (λ i l. same_signals sheet i l))
           k h i (sym (same_activators sheet i l k h) ∙ on)).1
 

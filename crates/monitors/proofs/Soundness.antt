@@ -7,6 +7,7 @@ use mathlib.Core.Logic.{◌⊎◌, inl, inr}
 use mathlib.Core.Bool.{Bool, true, false, not, ◌&&◌, ◌||◌}
 use native.Mathlib.Nat.{eq-or-lt_of_le}
 use native.Mathlib.Omega.{arith}
+use Rattle.std.proofs.lemmas.Bool.{or_left, or_right, not_from_true}
 use Rattle.meaning.specs.Reading.{Reading}
 use Rattle.meaning.specs.Operator.{During, Until}
 use Rattle.meaning.specs.Trace.{InfiniteTrace}
@@ -46,18 +47,6 @@ goes_on true false false true h e = on_and_off refl e
 goes_on false true true true h e = inl refl
 goes_on false false true true h e = inr (refl, refl)
 goes_on false a false true h e = on_and_off refl e
-
-or_left : (a b : Bool) → On a → On (a || b)
-or_left true b e = refl
-or_left false b e = on_and_off e refl
-
-or_right : (a b : Bool) → On b → On (a || b)
-or_right true b e = refl
-or_right false b e = e
-
-not_off : (a : Bool) → On a → not a ≡ false
-not_off true e = refl
-not_off false e = on_and_off e refl
 
 -- ---- one pattern: a and b are the operands' activators, z the row's own, y its pendings
 
@@ -110,7 +99,7 @@ module _ (R : Reading) (full : Full R) (a b z y : ℕ → Bool) where
       (connective_iff R f (a i) (b i) iff_refl iff_refl).1 (not_failed (z i) (connective_bit f (a i) (b i)) (h.none_fails i) on)
   holds_where_active (temporal f true) h i on = full _ (λ n. n (inr (λ j l. (keeps_forever f h.hands h.none_fails i on (λ u. n (inl u)) j l).0)))
   holds_where_active (temporal f false) h i on =
-      full _ (λ n. h.none_starves i (λ j l. not_off _ (sym (h.hands j) ∙ (keeps_forever f h.hands h.none_fails i on (λ u. R.sure u n) j l).1)))
+      full _ (λ n. h.none_starves i (λ j l. not_from_true _ (sym (h.hands j) ∙ (keeps_forever f h.hands h.none_fails i on (λ u. R.sure u n) j l).1)))
 
 -- ---- a table with any states: `states i` is what was handed on to cycle i
 

@@ -3,13 +3,14 @@ use mathlib.Core.Path.{◌≡◌, refl, sym, ◌∙◌}
 use mathlib.Core.Logic.{◌⊎◌, inl, inr}
 use mathlib.Core.Bool.{Bool, true, false, true≢false}
 use mathlib.Core.List.{List}
-use Prim.Native.Nat.{ℕ, zero, suc, ◌<◌}
+use Prim.Native.Nat.{ℕ, ◌<◌}
 use native.Mathlib.Omega.{arith}
 use native.Mathlib.Decide.{ℕ_discrete}
-use lib.ListN.{length, get_or, set, replicate, length-set}
+use lib.ListN.{length, get_or, set, length-set}
 use lib.Seq.{get_or-set_same, get_or-set_other}
 use Rattle.tables.specs.declared.row.Row.{Row}
 use Rattle.tables.specs.declared.row.Row.TheVariants.{Constant, Signal, Unary, Binary}
+use Rattle.tables.proofs.Places.{replicate_at}
 use Rattle.normal_form.specs.declared.sign.Sign.{Sign}
 use Rattle.normal_form.specs.Operand.{OperandOf, Below}
 use Rattle.normal_form.specs.Sign.{operand_sign, slot_of}
@@ -36,18 +37,13 @@ set_stays m i j l e = by (ℕ_discrete j i)
     by (yes q) = rw q (get_or-set_same m i true false l)
     by (no q) = get_or-set_other m i j true false q ∙ e
 
-none_marked : (n i : ℕ) → get_or (replicate n false) i false ≡ false
-none_marked zero i = refl
-none_marked (suc n) zero = refl
-none_marked (suc n) (suc i) = none_marked n i
-
 -- the root's mark, and no other
 pub first_mark : (k : ℕ) (s : Sign) (i : ℕ) → Marked (mark no_marks k s) i → i ≡ slot_of k s
 first_mark k s i e = by (set_was no_marks (slot_of k s) i e)
   where
     by : (i ≡ slot_of k s) ⊎ Marked no_marks i → i ≡ slot_of k s
     by (inl q) = q
-    by (inr q) = absurd (true≢false (sym q ∙ none_marked 128 i))
+    by (inr q) = absurd (true≢false (sym q ∙ replicate_at 128 i false))
 
 -- ---- the operands' marks
 

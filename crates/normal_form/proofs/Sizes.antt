@@ -24,8 +24,8 @@ use Rattle.normal_form.proofs.Reaching.{reached_marked, marked_reached}
 use Rattle.normal_form.proofs.Listings.{rows_few, one_row_most, slot_free, slot_shared}
 
 other_sign : (s : Sign) → turned s ≡ s → ⊥
-other_sign Plain e = let z : ◌≡◌ {A = ℕ} 0 1 = cc in omega arith
-other_sign Negated e = let z : ◌≡◌ {A = ℕ} 0 1 = cc in omega arith
+other_sign Plain e = cc
+other_sign Negated e = cc
 
 module _ (f : Formula) (sign : Sign) (ok : InRange f) where
   -- how many rows the slots below j have
