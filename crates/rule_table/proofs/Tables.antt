@@ -3,15 +3,17 @@ use mathlib.Core.Path.{◌≡◌, refl, sym, ap, ◌∙◌}
 use mathlib.Core.Logic.{◌↔◌}
 use mathlib.Core.Bool.{Bool, true, false}
 use mathlib.Core.List.{List, map}
-use Prim.Native.Nat.{ℕ, ◌+◌, ◌≤◌, ◌<◌}
+use Prim.Native.Nat.{ℕ, ◌+◌, ◌-◌, ◌≤◌, ◌<◌}
 use native.Mathlib.Omega.{arith}
 use native.Mathlib.Decide.{dec_lt, ℕ_discrete}
-use lib.ListN.{length, get_or, set, length-set, get_or-eq_default}
-use lib.Seq.{get_or-set_same, get_or-set_other, take-set-le}
+use lib.ListN.{length, get_or, replicate, length-replicate, get_or-eq_default}
+use borrow.Rule.Slice.PartMut.{put_mid}
+use Rattle.std.proofs.lemmas.List.{places as list_places}
+use Rattle.std.proofs.lemmas.Slice.{take-put_mid_below}
 use Rattle.tables.specs.Place.{placed}
 use Rattle.tables.specs.Used.{used_rows}
 use Rattle.tables.proofs.Choices.{clash}
-use Rattle.tables.proofs.Places.{get_d_tabulate, tabulate_ext, tabulate_get_d}
+use Rattle.tables.proofs.Places.{get_d_tabulate, tabulate_ext, tabulate_get_d, replicate_at}
 use Rattle.tables.proofs.UsedRows.{used_size, used_at}
 use Rattle.tables.proofs.Outcomes.{refused_only}
 use Rattle.tables.specs.declared.refusal.Outcome.{Outcome}
@@ -38,6 +40,13 @@ other_row row n = (λ q. clash (cc), λ q. absurd (n q))
 -- the row in place k
 abbrev pub row_at : List RowPlace → ℕ → Row
 row_at places k = (get_or places k (in_place unused)).row
+
+-- places of which the last are written at once
+part_size : {A : Type 0} (m k : ℕ) (xs ys : List A) → length ys ≡ k → m + k ≤ length xs → length (put_mid m k xs ys) ≡ length xs
+part_size m k xs ys l h = grind (arith, list_places)
+
+part_within : {A : Type 0} (m k : ℕ) (xs ys : List A) (d : A) (i : ℕ) → length ys ≡ k → m + k ≤ length xs → m ≤ i → i < m + k → get_or (put_mid m k xs ys) i d ≡ get_or ys (i - m) d
+part_within m k xs ys d i l h a b = grind (arith, list_places)
 
 -- the places behind the used rows, up to place k, hold `true`
 pub record TrueTo (rows : ℕ) (places : List RowPlace) (k : ℕ) : Type 0 where
@@ -96,29 +105,21 @@ pub record FilledTo (rows : ℕ) (before places : List RowPlace) (k : ℕ) : Typ
   pub filled : TrueTo rows places k
   pub used : used_rows rows places ≡ used_rows rows before
 
-pub none_filled : (rows : ℕ) (places : List RowPlace) → rows ≤ 64 → length places ≡ 64 → FilledTo rows places places rows
-none_filled rows places h e = record { filled = none_yet rows places h e; used = refl }
-
-module _ {rows : ℕ} {before places : List RowPlace} {k : ℕ} (inv : FilledTo rows before places k) where
-  pub filled_more : k < 64 → FilledTo rows before (set places k (in_place unused)) (k + 1)
-  filled_more h = record { filled = true_more kept h here; used = same }
-    where
-      inside : k < length places
-      inside = rw inv.filled.size h
-
-      here : row_at (set places k (in_place unused)) k ≡ unused
-      here = ap (λ (p : RowPlace). p.row) (get_or-set_same places k (in_place unused) (in_place unused) inside)
-
-      kept : TrueTo rows (set places k (in_place unused)) k
-      kept = record {
-        from = inv.filled.from;
-        within = inv.filled.within;
-        size = length-set places k (in_place unused) ∙ inv.filled.size;
-        holds = λ i a b. ap (λ (p : RowPlace). p.row) (get_or-set_other places k i (in_place unused) (in_place unused) (λ e. omega arith)) ∙ inv.filled.holds i a b;
-      }
-
-      same : used_rows rows (set places k (in_place unused)) ≡ used_rows rows before
-      same = ap (map (λ (p : RowPlace). p.row)) (take-set-le rows places k (in_place unused) inv.filled.from) ∙ inv.used
+pub filled_rest : (rows : ℕ) (places : List RowPlace) {rest : List RowPlace} → rows ≤ 64 → length places ≡ 64 → rest ≡ replicate (64 - rows) (in_place unused)
+    → FilledTo rows places (put_mid rows (64 - rows) places rest) 64
+filled_rest rows places {rest} h e r =
+    let long : length rest ≡ 64 - rows = ap length r ∙ length-replicate (64 - rows) (in_place unused) in
+    record {
+      filled = record {
+        from = h;
+        within = omega arith;
+        size = part_size rows (64 - rows) places rest long (omega (arith, e)) ∙ e;
+        holds = λ i a b.
+            ap (λ (p : RowPlace). p.row) (part_within rows (64 - rows) places rest (in_place unused) i long (omega (arith, e)) a (omega arith)
+            ∙ (ap (λ xs. get_or xs (i - rows) (in_place unused)) r ∙ replicate_at (64 - rows) (i - rows) (in_place unused)));
+      };
+      used = ap (map (λ (p : RowPlace). p.row)) (take-put_mid_below rows (64 - rows) places rest rows (omega arith) (omega (arith, e)));
+    }
 
 -- a formula in range whose unused places were filled is what reading its file gives
 module _ (f : Formula) (places : List RowPlace) where

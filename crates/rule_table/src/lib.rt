@@ -15,15 +15,7 @@ use tables::row::{ConstantKind, Formula, Row, RowPlace};
 fn is_true(row: Row) -> bool
     ensures exactly { (result ≡ true) ↔ (row ≡ unused) }
 {
-    match row {
-        Row::Constant(kind) => match kind {
-            ConstantKind::True => true,
-            ConstantKind::False => false,
-        },
-        Row::Signal(_, _) => false,
-        Row::Unary(_, _) => false,
-        Row::Binary(_, _, _) => false,
-    }
+    matches!(row, Row::Constant(ConstantKind::True))
 }
 
 // Whether each place behind the used rows holds `true`.
@@ -32,15 +24,10 @@ fn unused_true(formula: Formula) -> bool
     ensures exactly { (result ≡ true) ↔ (formula.places ≡ placed 64 in_place unused (rows_of formula)) }
 {
     let rows = formula.rows as usize;
-    let places = formula.places;
-    let mut k = rows;
-    while k < 64 {
-        let place = places[k];
-        let row = place.row;
-        if !is_true(row) {
+    for k in rows..64 {
+        if !is_true(formula.places[k].row) {
             return false;
         }
-        k += 1;
     }
     true
 }
@@ -61,18 +48,12 @@ pub fn as_read(formula: Formula) -> Formula
     requires { InRange formula }
     ensures read { parse_rule (written_rule formula) ≡ accepted result }
 {
-    let signals = formula.signals;
-    let rows = formula.rows;
     let mut places = formula.places;
     let unused = Row::Constant(ConstantKind::True);
-    let mut place = rows as usize;
-    while place < 64 {
-        places[place] = RowPlace { row: unused };
-        place += 1;
-    }
+    places[formula.rows as usize..].fill(RowPlace { row: unused });
     Formula {
-        signals,
-        rows,
+        signals: formula.signals,
+        rows: formula.rows,
         places,
     }
 }

@@ -1,4 +1,3 @@
-use Prim.Native.Nat.{◌-◌}
 use native.Mathlib.Omega.{arith}
 use Rattle.rule_table.proofs.Tables.{none_yet, true_more, other_place, each_true}
 use borrow.Author.Rules.{rules}
