@@ -35,11 +35,9 @@ pub fn begin(rule: &[u8], state: &mut [u8]) -> Bytes
 pub fn take_cycle(state: &mut [u8], digits: &[u8]) -> Outcome
     ensures answer { TakesCycle state_of state.old digits.now result state.new }
 {
-    let held = run_bytes::read(state);
-    if !held.whole {
+    let Some(before) = run_bytes::read(state) else {
         return call_refused(Reason::CountOutOfRange);
-    }
-    let before = held.run;
+    };
     let told = run::take_cycle(before, digits);
     let outcome = told.outcome;
     match outcome {
@@ -57,14 +55,13 @@ pub fn take_cycle(state: &mut [u8], digits: &[u8]) -> Outcome
 pub fn verdict(state: &[u8]) -> Answer
     ensures answer { GivesVerdict state_of state.now result state.now }
 {
-    let held = run_bytes::read(state);
-    if !held.whole {
+    let Some(held) = run_bytes::read(state) else {
         return Answer::Refused(Refusal {
             reason: Reason::CountOutOfRange,
             file: 0,
             line: 0,
         });
-    }
-    let told = run::verdict(held.run);
+    };
+    let told = run::verdict(held);
     told.answer
 }
