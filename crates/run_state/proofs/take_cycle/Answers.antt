@@ -1,5 +1,3 @@
-use mathlib.Core.Path.{ap}
-use Rattle.std.specs.declared.result.Result.TheVariants.{Err}
 use borrow.Author.Rules.{rules}
 use Rattle.run_state.proofs.States.{no_cycle, refused_cycle, accepted_cycle, room}
 use Rattle.run_state.proofs.take_cycle.Goals as goal
