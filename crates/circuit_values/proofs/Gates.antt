@@ -10,7 +10,7 @@ use lib.Dec.{eqb}
 use lib.ListN.{length, get_or, set, length-set}
 use lib.Seq.{get_or-set_same, get_or-set_other}
 use Rattle.tables.specs.Choice.{pick}
-use Rattle.circuit_values.specs.Values.{Evaluated, GatePlaces, value_of}
+use Rattle.circuit_values.specs.Values.{GatePlaces, value_of}
 
 -- a literal's value changes only with its variable's
 pub value_kept : (values : List Bool) (x l : ℕ) (b : Bool) → ¬ (l / 2 ≡ x) → value_of (set values x b) l ≡ value_of values l
@@ -47,9 +47,6 @@ module _ (places numbers : List ℕ) where
     pub ands : (y : ℕ) → y < x → ¬ (get_or places y 0 ≡ 0) → get_or now y false ≡ both_of now y
 
 module _ {places numbers : List ℕ} where
-  pub done_none : {before : List Bool} → Done places numbers 0 before before
-  done_none = record { size = refl; given = λ y e. refl; ands = λ y h n. absurd (omega arith) }
-
   -- a variable that has no gate
   pub done_skip : {x : ℕ} {before now : List Bool} → get_or places x 0 ≡ 0 → Done places numbers x before now → Done places numbers (x + 1) before now
   done_skip {x} {before} {now} e d = record { size = d.size; given = d.given; ands = λ y h n. by y h n (ℕ_discrete y x) }
@@ -87,6 +84,3 @@ module _ {places numbers : List ℕ} where
         → a ≡ value_of now (first places numbers x) → b ≡ value_of now (second places numbers x) → after ≡ set now x (a && b) → Done places numbers (x + 1) before after
     done_more {before} {now} {after} {a} {b} long some d p q e =
         subst (Done places numbers (x + 1) before) (sym (e ∙ ap (set now x) (ap₂ ◌&&◌ p q))) (done_put long some d)
-
-  pub done_all : {most x : ℕ} {before now : List Bool} → most < x → Done places numbers x before now → Evaluated most places numbers before now
-  done_all h d = record { size = d.size; given = d.given; ands = λ y l n. d.ands y (omega arith) n }

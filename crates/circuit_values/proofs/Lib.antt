@@ -1,4 +1,3 @@
-pub mod Scatter
 pub mod Gates
 pub mod Valued
 pub mod Sections

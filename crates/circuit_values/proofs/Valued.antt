@@ -34,7 +34,3 @@ module _ (values : List Bool) (numbers : List ℕ) (from width i : ℕ) where
   valued_more o x y =
       wrote_is (ap (λ v. digits_text (values_at values numbers from width i) ++ (pick v 49 48 ∷ [])) o ∙ digits_next (λ k. value_of values (literal_at numbers from width k)) i)
       (wrote_both x y)
-
-  pub valued_all : {b a : List ℕ} {at e count : ℕ} → i ≡ count → Wrote b at (digits_text (values_at values numbers from width i)) a e
-      → Wrote b at (digits_text (values_at values numbers from width count)) a e
-  valued_all q x = wrote_is (ap (λ n. digits_text (values_at values numbers from width n)) q) x

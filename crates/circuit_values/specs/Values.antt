@@ -43,7 +43,8 @@ pub record Evaluated (most : ℕ) (places numbers : List ℕ) (before after : Li
   pub size : length after ≡ length before
   pub given : (x : ℕ) → get_or places x 0 ≡ 0 → get_or after x false ≡ get_or before x false
   pub ands : (x : ℕ) → x ≤ most → ¬ (get_or places x 0 ≡ 0)
-      → get_or after x false ≡ value_of after (get_or numbers (get_or places x 0) 0) && value_of after (get_or numbers (get_or places x 0 + 1) 0)
+      → get_or after x false
+      ≡ value_of after (get_or numbers (get_or places x 0) 0) && value_of after (get_or numbers (get_or places x 0 + 1) 0)
 
 -- the values of so many literals
 abbrev pub values_at : List Bool → List ℕ → ℕ → ℕ → ℕ → List Bool

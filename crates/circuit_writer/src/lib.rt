@@ -33,10 +33,10 @@ fn put_circuit(buf: &mut [u8], form: NormalForm) -> usize
         outputs: 3 * rows,
         gates: 3 * rows,
     };
-    let a = line_writer::put_header(&mut *buf, header);
-    let b = section::put_inputs(&mut *buf, a, form);
-    let c = section::put_latches(&mut *buf, b, form);
-    let d = section::put_outputs(&mut *buf, c, form);
+    let a = line_writer::put_header(buf, header);
+    let b = section::put_inputs(buf, a, form);
+    let c = section::put_latches(buf, b, form);
+    let d = section::put_outputs(buf, c, form);
     section::put_gates(buf, d, form)
 }
 

@@ -20,7 +20,7 @@ pub fn put_inputs(buf: &mut [u8], at: usize, form: NormalForm) -> usize
     let inputs = u32::from(form.signals) + u32::from(form.rows);
     let mut end = at;
     for i in 0..inputs {
-        end = put_numbers(&mut *buf, end, &[2 * (i + 1)]);
+        end = put_numbers(buf, end, &[2 * (i + 1)]);
     }
     end
 }
@@ -35,7 +35,7 @@ pub fn put_latches(buf: &mut [u8], at: usize, form: NormalForm) -> usize
     for (k, place) in form.places[..form.rows as usize].iter().enumerate() {
         let own = own_of(form.signals, form.rows, k + 1);
         let wiring = wiring_of(place.row, form.signals, form.rows, k + 1);
-        end = put_numbers(&mut *buf, end, &[own.latch, wiring.pending]);
+        end = put_numbers(buf, end, &[own.latch, wiring.pending]);
     }
     end
 }
@@ -52,7 +52,7 @@ fn put_said<F: Fn(Wiring) -> u32>(buf: &mut [u8], at: usize, form: NormalForm, s
     let mut end = at;
     for (k, place) in form.places[..form.rows as usize].iter().enumerate() {
         let wiring = wiring_of(place.row, form.signals, form.rows, k + 1);
-        end = put_numbers(&mut *buf, end, &[said(wiring)]);
+        end = put_numbers(buf, end, &[said(wiring)]);
     }
     end
 }
@@ -63,8 +63,8 @@ pub fn put_outputs(buf: &mut [u8], at: usize, form: NormalForm) -> usize
     ensures text { Wrote buf.old at (written_lines (output_lines form)) buf.new result }
     ensures room { result ≤ at + 18 * form.rows }
 {
-    let a = put_said(&mut *buf, at, form, |wiring| wiring.failed);
-    let b = put_said(&mut *buf, a, form, |wiring| wiring.accept);
+    let a = put_said(buf, at, form, |wiring| wiring.failed);
+    let b = put_said(buf, a, form, |wiring| wiring.accept);
     put_said(buf, b, form, |wiring| wiring.pending)
 }
 
@@ -79,9 +79,9 @@ pub fn put_gates(buf: &mut [u8], at: usize, form: NormalForm) -> usize
         let own = own_of(form.signals, form.rows, k + 1);
         let wiring = wiring_of(place.row, form.signals, form.rows, k + 1);
         let (first, second, third) = (wiring.first, wiring.second, wiring.third);
-        let a = put_numbers(&mut *buf, end, &[own.first, first.rhs0, first.rhs1]);
-        let b = put_numbers(&mut *buf, a, &[own.second, second.rhs0, second.rhs1]);
-        end = put_numbers(&mut *buf, b, &[own.third, third.rhs0, third.rhs1]);
+        let a = put_numbers(buf, end, &[own.first, first.rhs0, first.rhs1]);
+        let b = put_numbers(buf, a, &[own.second, second.rhs0, second.rhs1]);
+        end = put_numbers(buf, b, &[own.third, third.rhs0, third.rhs1]);
     }
     end
 }

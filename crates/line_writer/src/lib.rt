@@ -17,7 +17,7 @@ fn put_part(buf: &mut [u8], at: usize, n: u32, behind: u8) -> usize
     ensures text { Wrote buf.old at (decimal n ++ (behind ∷ [])) buf.new result }
     ensures room { result ≤ at + 6 }
 {
-    let i = put_number(&mut *buf, at, n);
+    let i = put_number(buf, at, n);
     put_byte(buf, i, behind)
 }
 
@@ -32,7 +32,7 @@ pub fn put_numbers(buf: &mut [u8], at: usize, numbers: &[u32]) -> usize
     };
     let mut end = at;
     for n in front {
-        end = put_part(&mut *buf, end, *n, b' ');
+        end = put_part(buf, end, *n, b' ');
     }
     put_part(buf, end, *last, b'\n')
 }
@@ -53,6 +53,6 @@ pub fn put_header(buf: &mut [u8], header: Header) -> usize
         header.outputs as u32,
         header.gates as u32,
     ];
-    let a = put(&mut *buf, 0, b"aag ");
+    let a = put(buf, 0, b"aag ");
     put_numbers(buf, a, &numbers)
 }

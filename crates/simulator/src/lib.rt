@@ -9,6 +9,7 @@ ghost use Rattle.simulator.specs.Simulation.{Cycles, IsCycle, Simulates, digits_
 ghost use Rattle.circuit_file.specs.OfFile.{OfFile, table_with};
 
 use circuit_line::section::Header;
+use circuit_values::{Column, evaluate, put_values};
 use tables::refusal::{Outcome, Reason, call_refused};
 use text::digits::are_digits;
 use writing::answer::Bytes;
@@ -48,26 +49,19 @@ fn write_cycle(
         return too_short();
     }
     let mut values = [false; 32770];
-    circuit_values::evaluate(&mut values, numbers, header, inputs, latches);
-    let outputs = header.inputs + 2 * header.latches;
-    let end = circuit_values::put_values(
-        &mut *buf,
-        0,
-        &values,
-        numbers,
-        outputs,
-        1,
-        header.outputs,
-    );
-    let total = circuit_values::put_values(
-        buf,
-        end,
-        &values,
-        numbers,
-        header.inputs + 1,
-        2,
-        header.latches,
-    );
+    evaluate(&mut values, numbers, header, inputs, latches);
+    let outputs = Column {
+        from: header.inputs + 2 * header.latches,
+        width: 1,
+        count: header.outputs,
+    };
+    let next_latches = Column {
+        from: header.inputs + 1,
+        width: 2,
+        count: header.latches,
+    };
+    let end = put_values(buf, 0, &values, numbers, outputs);
+    let total = put_values(buf, end, &values, numbers, next_latches);
     Bytes::Count(total)
 }
 
