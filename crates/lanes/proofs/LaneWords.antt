@@ -78,15 +78,29 @@ module _ (k g : ℕ → Bool) where
       ∙ sym (approximant_split k g false (b + 64 - i) (256 - (b + 64)) i)
       ∙ ap (λ d. approximant k g false d i) n)
 
-  module _ (keep goal : Lane) (p : keep ≡ lane_of k) (q : goal ≡ lane_of g) (words : List ℕ) where
-    pub carry_more : (i later r : ℕ) → length words ≡ 4 → 0 < i → i ≤ 4 → Carried (get_or keep.words (i - 1) 0) (get_or goal.words (i - 1) 0) later r
-        → MadeFrom to_end to_end i words later → MadeFrom to_end to_end (i - 1) (set words (i - 1) r) r
-    carry_more i later r long some most c m =
-        let b : i * 64 ≡ (i - 1) * 64 + 64 = omega arith in
-        let word : r ≡ word_from 64 ((i - 1) * 64) to_end =
-        c ((i - 1) * 64) k g (to_end ((i - 1) * 64 + 64)) (word_at keep k p (i - 1) (omega arith)) (word_at goal g q (i - 1) (omega arith)) (rw b at m.over)
-        ∙ word_whole ((i - 1) * 64) (omega arith) in
-        made_more to_end to_end words i later long some most m r r word (ap (λ x. x % 2) word ∙ word_odd 63 ((i - 1) * 64) to_end)
+  module _ (keep goal : Lane) (p : keep ≡ lane_of k) (q : goal ≡ lane_of g) where
+    -- a word, from what the word behind it is
+    carry_word : (i later r : ℕ) → i < 4 → Carried (get_or keep.words i 0) (get_or goal.words i 0) later r → later % 2 ≡ pick (to_end (i * 64 + 64)) 1 0
+        → r ≡ word_from 64 (i * 64) to_end
+    carry_word i later r h c o = c (i * 64) k g (to_end (i * 64 + 64)) (word_at keep k p i h) (word_at goal g q i h) o ∙ word_whole (i * 64) (omega arith)
+
+    bit_of : (i r : ℕ) → r ≡ word_from 64 (i * 64) to_end → r % 2 ≡ pick (to_end (i * 64)) 1 0
+    bit_of i r w = ap (λ x. x % 2) w ∙ word_odd 63 (i * 64) to_end
+
+    pub lane_carry :
+        (r₀ r₁ r₂ r₃ : ℕ)
+        → Carried (get_or keep.words 3 0) (get_or goal.words 3 0) 0 r₃
+        → Carried (get_or keep.words 2 0) (get_or goal.words 2 0) r₃ r₂
+        → Carried (get_or keep.words 1 0) (get_or goal.words 1 0) r₂ r₁
+        → Carried (get_or keep.words 0 0) (get_or goal.words 0 0) r₁ r₀
+        → ◌≡◌ {A = Lane} (record { words = r₀ ∷ r₁ ∷ r₂ ∷ r₃ ∷ [] }) (lane_of to_end)
+    unfolding approximant lane_of tabulate_from
+    lane_carry r₀ r₁ r₂ r₃ c₃ c₂ c₁ c₀ =
+        let w₃ : r₃ ≡ word_from 64 192 to_end = carry_word 3 0 r₃ (omega arith) c₃ refl in
+        let w₂ : r₂ ≡ word_from 64 128 to_end = carry_word 2 r₃ r₂ (omega arith) c₂ (bit_of 3 r₃ w₃) in
+        let w₁ : r₁ ≡ word_from 64 64 to_end = carry_word 1 r₂ r₁ (omega arith) c₁ (bit_of 2 r₂ w₂) in
+        let w₀ : r₀ ≡ word_from 64 0 to_end = carry_word 0 r₁ r₀ (omega arith) c₀ (bit_of 1 r₁ w₁) in
+        rw (w₀, w₁, w₂, w₃) refl
 
 -- ---- one cycle later
 

@@ -52,13 +52,16 @@ pub fn without(a: Lane, b: Lane) -> Lane
 pub fn carry(keep: Lane, goal: Lane) -> Lane
     ensures lane { (k g : ℕ → Bool) → keep ≡ lane_of k → goal ≡ lane_of g → result ≡ lane_of (λ i. approximant k g false (256 - i) i) }
 {
-    let mut words = [0; 4];
-    let mut later = 0;
-    for i in (0..4).rev() {
-        later = word::carry_from(keep.words[i], goal.words[i], later);
-        words[i] = later;
+    // Stays: a loop over the four words was tried, and rows of an open take took 1.7 times as long.
+    let k = keep.words;
+    let g = goal.words;
+    let d = word::carry_from(k[3], g[3], 0);
+    let c = word::carry_from(k[2], g[2], d);
+    let b = word::carry_from(k[1], g[1], c);
+    let a = word::carry_from(k[0], g[0], b);
+    Lane {
+        words: [a, b, c, d],
     }
-    Lane { words }
 }
 
 // What holds one cycle later, and nothing behind the last.
