@@ -1,7 +1,6 @@
 // The text of a sheet file. Its length is known beforehand, so it is written in place.
 ghost use Rattle.std.specs.Prelude.{◌≡◌, [], ◌∷◌, ◌+◌, ◌≤◌, length};
 ghost use Rattle.tables.specs.Bit.{bit_at};
-ghost use Rattle.tables.specs.Choice.{pick};
 ghost use Rattle.tables.specs.Place.{tabulate};
 ghost use Rattle.text.specs.Written.{decimal, digits_text, written_body, written_line};
 ghost use Rattle.sheet_file.specs.Written.{rows_of, written_sheet};
@@ -11,7 +10,7 @@ ghost use Rattle.sheet_maker.specs.Length.{rows_length, sheet_length};
 use tables::trace::{Activation, Lane};
 use writing::length::number_length;
 use writing::line::put_number_line;
-use writing::put::{put_byte, put_number};
+use writing::put::{put_bit, put_byte, put_number};
 
 // How many bytes the file of so many rows and cycles has.
 pub fn sheet_length(rows: u8, cycles: u16) -> usize
@@ -19,21 +18,10 @@ pub fn sheet_length(rows: u8, cycles: u16) -> usize
     ensures length { result ≡ sheet_length rows cycles }
 {
     let mut n = 23 + number_length(rows as u32) + number_length(cycles as u32);
-    let mut k: u8 = 0;
-    while k < rows {
-        n += number_length(k as u32 + 1) + cycles as usize + 3;
-        k += 1;
+    for k in 0..rows as u32 {
+        n += number_length(k + 1) + cycles as usize + 3;
     }
     n
-}
-
-fn digit(on: bool) -> u8
-    ensures digit { result ≡ pick on 49 48 }
-{
-    if on {
-        return b'1';
-    }
-    b'0'
 }
 
 // One digit for each cycle.
@@ -42,15 +30,11 @@ fn put_digits(buf: &mut [u8], at: usize, lane: Lane, cycles: u16) -> usize
     ensures text { Wrote buf.old at (digits_text (tabulate cycles (bit_at lane))) buf.new result }
     ensures room { result ≤ at + cycles }
 {
-    let count = cycles as usize;
-    let mut i = at;
-    let mut c = 0;
-    while c < count {
-        let on = lanes::lane::bit(lane, c);
-        i = put_byte(&mut *buf, i, digit(on));
-        c += 1;
+    let mut end = at;
+    for c in 0..cycles as usize {
+        end = put_bit(&mut *buf, end, lanes::lane::bit(lane, c));
     }
-    i
+    end
 }
 
 // The line of row `number`.
@@ -72,14 +56,11 @@ fn put_rows(buf: &mut [u8], at: usize, sheet: Activation) -> usize
     requires { (sheet.rows ≤ 128) × (sheet.cycles ≤ 256) × (at + rows_length sheet.cycles sheet.rows ≤ length buf.old) }
     ensures text { Wrote buf.old at (written_body 122 digits_text 1 (rows_of sheet)) buf.new result }
 {
-    let mut i = at;
-    let mut k: u8 = 0;
-    while k < sheet.rows {
-        let lane = sheet.lanes[k as usize];
-        i = put_row(&mut *buf, i, k + 1, lane, sheet.cycles);
-        k += 1;
+    let mut end = at;
+    for (k, lane) in sheet.lanes[..sheet.rows as usize].iter().enumerate() {
+        end = put_row(&mut *buf, end, k as u8 + 1, *lane, sheet.cycles);
     }
-    i
+    end
 }
 
 // The whole file, at the buffer's start.

@@ -1,4 +1,4 @@
-use Prim.Native.Nat.{◌+◌, ◌-◌, ◌≤◌}
+use Prim.Native.Nat.{◌+◌}
 use mathlib.Core.Path.{◌≡◌}
 use lib.ListN.{take}
 use Rattle.text.specs.Written.{digits_text, written_body}
@@ -7,8 +7,9 @@ use Rattle.writing.specs.Lent.{Wrote}
 use Rattle.sheet_maker.specs.Length.{rows_length}
 use Rattle.sheet_maker.proofs.sheet.put_rows.Given as goal
 
+-- the lines of the first k rows are written
 abbrev pub invariant-loop-k : goal.invariant-loop-k
-invariant-loop-k l = (l.k ≤ l.sheet.rows) × (l.i ≡ l.at + rows_length l.sheet.cycles l.k) × Wrote l.initial.buf l.at (written_body 122 digits_text 1 (take l.k (rows_of l.sheet))) l.buf l.i
-
-abbrev pub decreases-loop-k : goal.decreases-loop-k
-decreases-loop-k l = l.sheet.rows - l.k
+invariant-loop-k l = record {
+  place : l.end ≡ l.at + rows_length l.fn.sheet.cycles l.k;
+  text : Wrote l.initial.buf l.at (written_body 122 digits_text 1 (take l.k (rows_of l.fn.sheet))) l.buf l.end;
+}
