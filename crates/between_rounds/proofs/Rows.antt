@@ -1,7 +1,7 @@
 -- What is asked of the rows of a normal form, one row after the other. Assumes nothing.
 use Prim.Native.Nat.{ℕ, suc, ◌+◌, ◌-◌, ◌≤◌, ◌<◌}
 use mathlib.Core.Path.{◌≡◌, refl, sym, ap, ap₂, ◌∙◌}
-use mathlib.Core.Bool.{Bool, true, false, ◌&&◌, true≢false, and-eq-true_iff}
+use mathlib.Core.Bool.{Bool, true, false, ◌&&◌, and-eq-true_iff}
 use mathlib.Core.List.{List}
 use native.Mathlib.Decide.{ℕ_discrete}
 use native.Mathlib.Omega.{arith}
@@ -41,9 +41,6 @@ module _ (g : NormalForm) (ok : InNormalForm g) (behind left : ℕ → Bool) whe
     pub told : Surveyed (table_of g.places) k behind left (sure_in sure)
     pub each : all ≡ true → (j : ℕ) → j < k → sure_in sure (suc j) ≡ true
     pub some : all ≡ false → (j : ℕ) × (j < k) × (sure_in sure (suc j) ≡ false)
-
-  pub survey_none : (sure : List Bool) → SurveyedTo 0 sure true
-  survey_none sure = record { within = omega arith; told = λ j h. absurd (omega arith); each = λ e j h. absurd (omega arith); some = λ e. absurd (true≢false e) }
 
   module _ (k : ℕ) (sure : List Bool) (size : length sure ≡ 128) (h : k < g.rows) (on : Bool) where
     -- the entry of row k + 1 is written, and the others stay
@@ -87,9 +84,6 @@ module _ (t : Table) (sure : ℕ → Bool) (left : List Bool) where
   pub record HandedTo (k : ℕ) (cells : List Bool) : Type 0 where
     pub started : Handed t k sure (row_cell left) (row_cell cells)
     pub later : (j : ℕ) → k ≤ j → row_cell cells (suc j) ≡ row_cell left (suc j)
-
-  pub handed_none : HandedTo 0 left
-  handed_none = record { started = λ j h. absurd (omega arith); later = λ j h. refl }
 
   -- THE NEXT ROW
   pub handed_more :

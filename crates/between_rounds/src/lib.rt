@@ -86,7 +86,7 @@ pub fn survey(
         let row = form.places[k].row;
         let on = operands_sure(row, &*sure) & row_stays(row, k as u8 + 1, behind, cells);
         sure[k] = on;
-        all = all & on;
+        all &= on;
     }
     all
 }

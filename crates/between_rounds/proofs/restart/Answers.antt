@@ -9,11 +9,8 @@ use Rattle.meaning.specs.Pattern.{pattern_of}
 use Rattle.meaning.specs.Satisfaction.{table_of}
 use Rattle.normal_form.proofs.FormTables.{row_operands}
 use Rattle.between_rounds.specs.Between.{handed}
-use Rattle.between_rounds.proofs.Rows.{handed_none, handed_more}
+use Rattle.between_rounds.proofs.Rows.{handed_more}
 use Rattle.between_rounds.proofs.restart.Goals as goal
-
-pub loop-k-init : goal.loop-k-init
-loop-k-init c = handed_none _ _ _
 
 pub operands_sure-operands-requires : goal.operands_sure-operands-requires
 operands_sure-operands-requires c = row_operands c.args.form c.requires c.loop-k.k (search rules)
@@ -29,5 +26,3 @@ loop-k-preserved c =
     (c.row_handed.ensures.answer ∙ ap₂ (handed (pattern_of (table_of g.places (suc k)))) c.operands_sure-operands.ensures.answer left)
     c.loop-k.invariant)
 
-pub returns : goal.returns
-returns c = record { started = λ j h. c.loop-k.invariant.started j (search rules) }

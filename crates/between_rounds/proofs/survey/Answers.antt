@@ -10,11 +10,8 @@ use Rattle.meaning.specs.Pattern.{pattern_of}
 use Rattle.normal_form.proofs.FormTables.{row_operands}
 use Rattle.cycle_rows.specs.Cells.{row_cell}
 use Rattle.between_rounds.specs.Between.{same_in, stays}
-use Rattle.between_rounds.proofs.Rows.{survey_none, survey_more}
+use Rattle.between_rounds.proofs.Rows.{survey_more}
 use Rattle.between_rounds.proofs.survey.Goals as goal
-
-pub loop-k-init : goal.loop-k-init
-loop-k-init c = λ ok. survey_none c.args.form ok (row_cell c.args.behind.now) (row_cell c.args.cells.now) c.args.sure.now
 
 pub operands_sure-requires : goal.operands_sure-requires
 operands_sure-requires c = row_operands c.args.form c.requires c.loop-k.k (search rules)
