@@ -30,13 +30,6 @@ use Rattle.rule_file.specs.Outcome.{rule_outcome}
 use Rattle.rule_file.specs.Valid.{InRange, Valid}
 use Rattle.rule_file.proofs.Rules.{rule_written_lem}
 
--- what the code answers of a row
-pub true_row : (row : Row) → row ≡ unused → (true ≡ true) ↔ (row ≡ unused)
-true_row row e = (λ q. e, λ q. refl)
-
-pub other_row : (row : Row) → (row ≡ unused → ⊥) → (false ≡ true) ↔ (row ≡ unused)
-other_row row n = (λ q. clash (cc), λ q. absurd (n q))
-
 -- the row in place k
 abbrev pub row_at : List RowPlace → ℕ → Row
 row_at places k = (get_or places k (in_place unused)).row
