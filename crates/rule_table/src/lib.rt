@@ -23,13 +23,9 @@ fn unused_true(formula: Formula) -> bool
     requires { formula.rows ≤ 64 }
     ensures exactly { (result ≡ true) ↔ (formula.places ≡ placed 64 in_place unused (rows_of formula)) }
 {
-    let rows = formula.rows as usize;
-    for k in rows..64 {
-        if !is_true(formula.places[k].row) {
-            return false;
-        }
-    }
-    true
+    formula.places[formula.rows as usize..]
+        .iter()
+        .all(|place| is_true(place.row))
 }
 
 // Whether a formula is as reading leaves it: some rule file holds it.
