@@ -25,4 +25,3 @@ loop-k-preserved c =
     (handed_more _ _ _ (search rules) (omega (arith, c.requires.most_rows)) _
     (c.row_handed.ensures.answer ∙ ap₂ (handed (pattern_of (table_of g.places (suc k)))) c.operands_sure-operands.ensures.answer left)
     c.loop-k.invariant)
-

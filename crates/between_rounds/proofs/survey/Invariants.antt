@@ -5,4 +5,3 @@ use Rattle.between_rounds.proofs.survey.Given as goal
 
 abbrev pub invariant-loop-k : goal.invariant-loop-k
 invariant-loop-k l = (ok : InNormalForm l.form) → SurveyedTo l.form ok (row_cell l.behind) (row_cell l.cells) l.k l.sure l.all
-
