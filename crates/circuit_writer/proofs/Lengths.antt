@@ -20,8 +20,8 @@ use Rattle.normal_form.specs.Numbering.{normal_form}
 use Rattle.normal_form.proofs.Ranges.{form_normal}
 use Rattle.writing.specs.declared.answer.Bytes.TheVariants.{Count}
 use Rattle.writing.proofs.Room.{room_enough}
-use Rattle.writing.proofs.Lengths.{decimal_most}
-use Rattle.writing.proofs.Texts.{decimal_next_length}
+use Rattle.writing.proofs.Lengths.{decimal_most, decimal_two_most}
+use Rattle.writing.proofs.Texts.{decimal_more_length}
 use Rattle.circuit_file.specs.Written.{lines_of, spaced, written_circuit, written_lines}
 use Rattle.monitor_circuit.specs.Monitors.{circuit_of, latch_count, wiring_of}
 use Rattle.monitor_circuit.proofs.GateRows.{first_gate, second_gate, third_gate}
@@ -40,7 +40,7 @@ decimal_four_most n h = by (dec_lt n 1000)
   where
     by : Dec (n < 1000) → length (decimal n) ≤ 4
     by (yes l) = omega (arith, decimal_most n l)
-    by (no l) = omega (arith, decimal_next_length n (omega arith) (omega arith), decimal_most (n / 10) (omega arith))
+    by (no l) = omega (arith, decimal_more_length n (omega arith) (omega arith), decimal_two_most (n / 100) (omega arith))
 
 abbrev EachFour : List ℕ → Type 0
 EachFour [] = Unit {0}

@@ -52,7 +52,7 @@ pub fn without(a: Lane, b: Lane) -> Lane
 pub fn carry(keep: Lane, goal: Lane) -> Lane
     ensures lane { (k g : ℕ → Bool) → keep ≡ lane_of k → goal ≡ lane_of g → result ≡ lane_of (λ i. approximant k g false (256 - i) i) }
 {
-    // Stays: a loop over the four words was tried, and rows of an open take took 1.7 times as long.
+    // Stays: a loop over the four words was tried, and missed the speed of this form: rows of an open take took 1.7 times as long.
     let k = keep.words;
     let g = goal.words;
     let d = word::carry_from(k[3], g[3], 0);

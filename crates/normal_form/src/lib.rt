@@ -14,7 +14,7 @@ pub mod row;
 pub mod sign;
 
 // The normal form of the formula (plain) or of its negation (negated).
-// Stays: (a) callers hand over any `Formula`, so `InRange` is asked here; a checked type for the two steps alone would state it again.
+// Stays: callers hand over any `Formula`, so `InRange` is asked here; a checked type for the two steps alone would state it again.
 pub fn normal_form(formula: Formula, sign: Sign) -> NormalForm
     requires { InRange formula }
     ensures answer { result ≡ normal_form formula sign }

@@ -9,7 +9,7 @@ pub enum Sign {
     Negated,
 }
 
-// Stays: (d) `impl Not` with its ghost member is longer than this, and `turned` is the word of the definitions.
+// Stays: `impl Not` with its ghost member is longer than this, and `turned` is the word of the definitions.
 pub fn turned(sign: Sign) -> Sign
     ensures answer { result ≡ turnedOf sign }
 {
@@ -20,7 +20,7 @@ pub fn turned(sign: Sign) -> Sign
 }
 
 // Each row has two slots, in the normal form's order: rising by the row's number, plain before negated.
-// Stays: (a) the definitions `reach` and `listing` under the theorem `normal` number the slots so.
+// Stays: the definitions `reach` and `listing` under the theorem `normal` number the slots so.
 pub fn slot(number: u8, sign: Sign) -> usize
     requires { 1 ≤ number }
     ensures answer { (result ≡ slot_of number sign) × (result < 2 * number) }

@@ -98,7 +98,7 @@ pub fn monitor_row(monitor: RowMonitor, course: Course) -> Result<RowReport, u16
     let waiting = monitors::row(monitor.row, false, false, most);
     let mut c = 0u16;
     let mut i = 0u16;
-    // Stays: no range has these steps, 64 cycles or one.
+    // Stays: a `for` is no plainer, since no range has these steps, 64 cycles or one.
     while i < course.end {
         let counts = course.from <= i;
         if course.whole_word(c, i)

@@ -1,7 +1,7 @@
 // A run as bytes that a caller in C keeps between calls, and back.
 #![tactic(auto)]
 
-ghost use Rattle.std.specs.Prelude.{true, ◌≡◌, ℕ, ◌+◌, ◌*◌, ◌≤◌, ◌<◌, ◌^◌, length, get_or, Some};
+ghost use Rattle.std.specs.Prelude.{◌≡◌, ℕ, ◌+◌, ◌*◌, ◌≤◌, ◌<◌, ◌^◌, length, get_or, Some};
 ghost use Rattle.tables.specs.Kind.{kind_count};
 ghost use Rattle.tables.specs.declared.run.Run.{Run};
 ghost use Rattle.run_bytes.specs.Bytes.{Fits, byte_of, filled, row_byte, run_bytes, run_length, word_byte};

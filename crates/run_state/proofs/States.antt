@@ -1,12 +1,11 @@
 -- Calls lead to bytes exactly where the bytes are those of a run that calls lead to. Assumes nothing.
 use Prim.Native.Nat.{ℕ, ◌+◌, ◌≤◌}
-use mathlib.Core.Bool.{Bool, true, false, not, true≢false}
+use mathlib.Core.Bool.{Bool}
 use mathlib.Core.List.{List}
 use mathlib.Core.Path.{◌≡◌, refl, sym, ap, ◌∙◌, subst}
 use native.Mathlib.Omega.{arith}
 use lib.ListN.{length}
 use lib.Seq.{take_all}
-use borrow.Author.Tests.{not-true, not-false}
 use Rattle.tables.specs.Refusal.{call_refused, numbered}
 use Rattle.tables.specs.declared.refusal.Outcome.{Outcome}
 use Rattle.tables.specs.declared.refusal.Outcome.TheVariants.{Accepted, Refused}
@@ -21,7 +20,7 @@ use Rattle.judging.specs.declared.verdict.Answer.{Answer}
 use Rattle.judging.specs.declared.verdict.Answer.TheVariants.{Refused as AnswerRefused}
 use Rattle.run.specs.Calls.{GivesVerdict, TakesCycle}
 use Rattle.run.specs.Cycles.{Led}
-use Rattle.run.specs.Run.{InState, LedTo, run_of}
+use Rattle.run.specs.Run.{InState, run_of}
 use Rattle.run.specs.Verdict.{out_of_range}
 use Rattle.run.proofs.Led.{led_valid}
 use Rattle.run.proofs.Witness.{run_once}

@@ -15,7 +15,7 @@ use Rattle.text.specs.Written.{decimal, digits_text, written_line, written_body}
 use Rattle.text.proofs.Laws.{line_length, decimal_short}
 use Rattle.take_file.specs.Valid.{Below, InRange}
 use Rattle.take_file.specs.Written.{ending_text, cycle_of, cycles_of, written_take}
-use Rattle.writing.proofs.Texts.{decimal_some, decimal_one, decimal_next_length}
+use Rattle.writing.proofs.Texts.{decimal_some, decimal_one, decimal_two, decimal_three}
 use Rattle.take_writer.proofs.Cycles.{cycle_line, cycle_next, cycle_within, cycles_all}
 
 pub ending_short : (e : Ending) → length (ending_text e) ≤ 5
@@ -34,18 +34,10 @@ ending_some (Loop n) = decimal_some n
 number_more : (n : ℕ) → n < 1000 → (suc n - 10) + (suc n - 100) + 1 ≡ (n - 10) + (n - 100) + length (decimal n)
 number_more n h = by (dec_lt n 10) (dec_lt (n / 10) 10)
   where
-    one : (n : ℕ) → n < 10 → length (decimal n) ≡ 1
-    one n h = sym (ap length (decimal_one n h))
-
     by : Dec (n < 10) → Dec (n / 10 < 10) → (suc n - 10) + (suc n - 100) + 1 ≡ (n - 10) + (n - 100) + length (decimal n)
-    by (yes a) d = omega (arith, one n a)
-    by (no a) (yes b) = omega (arith, decimal_next_length n (omega arith) (omega arith), one (n / 10) b)
-    by (no a) (no b) = omega (
-      arith,
-      decimal_next_length n (omega arith) (omega arith),
-      decimal_next_length (n / 10) (omega arith) (omega arith),
-      one (n / 10 / 10) (omega arith),
-    )
+    by (yes a) d = rw (← decimal_one n a) (omega arith)
+    by (no a) (yes b) = rw (← decimal_two n (omega arith) b) (omega arith)
+    by (no a) (no b) = rw (← decimal_three n (omega arith) (omega arith) (omega arith)) (omega arith)
 
 module _ (t : Trace) (full : length t.lanes ≡ 32) (ok : InRange t) where
   lines_length : (k : ℕ) → k ≤ t.cycles → length (written_body 99 digits_text 0 (take k (cycles_of t))) ≡ k * (t.signals + 4) + (k - 10) + (k - 100)

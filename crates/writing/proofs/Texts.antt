@@ -1,16 +1,14 @@
 -- Laws of texts put one behind the other into a buffer. Assumes nothing.
-use Prim.Native.Nat.{ℕ, zero, suc, ◌+◌, ◌-◌, ◌*◌, ◌/◌, ◌%◌, ◌≤◌, ◌<◌}
+use Prim.Native.Nat.{ℕ, zero, suc, ◌+◌, ◌-◌, ◌/◌, ◌%◌, ◌≤◌, ◌<◌}
 use mathlib.Core.Path.{◌≡◌, refl, sym, ap, ap₂, subst, ◌∙◌}
 use mathlib.Core.List.{List, [], ◌∷◌, ◌++◌, map, append_assoc, append-nil}
 use native.Mathlib.Numerals.{add-one}
-use Rattle.std.proofs.Common.{◌^◌}
-use Rattle.std.proofs.Math.Nat.{pow-succ'}
 use native.Mathlib.Decide.{dec_lt}
 use native.Mathlib.Omega.{arith}
 use lib.ListN.{length, get_or, set, take, drop, length-append, length-set, length-take, take-append-drop, length-map, get_or-map}
 use lib.Seq.{take_all, take-suc, drop-drop, drop-set-lt, take-suc-set, length-take-le, get_or-take}
 use borrow.Author.Tests.{lt-ltb, le-ltb, le-leb, lt-leb}
-use Rattle.text.proofs.Laws.{decimal_small, decimal_large, line_length}
+use Rattle.text.proofs.Laws.{decimal_large, line_length}
 use Rattle.text.specs.Written.{decimal_in, decimal, written_line, written_body}
 use Rattle.writing.specs.Lent.{Wrote, overlaid}
 
@@ -33,30 +31,43 @@ wrote_is {b} {a} {t} {u} {at} {e} q x = subst (λ t. Wrote b at t a e) q x
 pub wrote_byte : (b : List ℕ) (at v : ℕ) → at < length b → Wrote b at (v ∷ []) (set b at v) (at + 1)
 wrote_byte b at v h = record { next = refl; front = ap (λ n. take n (set b at v)) (add-one at) ∙ take-suc-set b at v h; rest = ap (λ n. drop n (set b at v)) (add-one at) ∙ drop-set-lt (suc at) b at v (omega arith) ∙ ap (λ n. drop n b) (sym (add-one at)); size = length-set b at v }
 
--- ---- decimals
-pub decimal_one : (n : ℕ) → n < 10 → (48 + n) ∷ [] ≡ decimal n
+-- ---- decimals of one byte
+module _ (n : ℕ) where
+  pub decimal_one : n < 10 → (48 + n) ∷ [] ≡ decimal n
+  unfolding decimal decimal_in
+  decimal_one h = sym (rw (lt-ltb n 10 h))
+
+  pub decimal_two : 10 ≤ n → n / 10 < 10 → (48 + n / 10) ∷ (48 + n % 10) ∷ [] ≡ decimal n
+  unfolding decimal decimal_in
+  decimal_two g h = sym (rw (le-ltb n 10 g, lt-ltb (n / 10) 10 h))
+
+  pub decimal_three : 10 ≤ n → 10 ≤ n / 10 → n / 10 / 10 < 10 → (48 + n / 10 / 10) ∷ (48 + n / 10 % 10) ∷ (48 + n % 10) ∷ [] ≡ decimal n
+  unfolding decimal decimal_in
+  decimal_three g h k = sym (rw (le-ltb n 10 g, le-ltb (n / 10) 10 h, lt-ltb (n / 10 / 10) 10 k))
+
+-- more digits than three change nothing for a number that has three
+decimal_three_most : (n : ℕ) → n < 1000 → decimal_in 4 n ≡ decimal_in 2 n
+unfolding decimal_in
+decimal_three_most n h = by (dec_lt n 10) (dec_lt (n / 10) 10)
+  where
+    by : Dec (n < 10) → Dec (n / 10 < 10) → decimal_in 4 n ≡ decimal_in 2 n
+    by (yes a) d = rw (lt-ltb n 10 a)
+    by (no a) (yes b) = let l : 10 ≤ n = omega arith in rw (le-ltb n 10 l, lt-ltb (n / 10) 10 b)
+    by (no a) (no b) =
+        let l : 10 ≤ n = omega arith in
+        let m : 10 ≤ n / 10 = omega arith in
+        let k : n / 10 / 10 < 10 = omega arith in
+        rw (le-ltb n 10 l, le-ltb (n / 10) 10 m, lt-ltb (n / 10 / 10) 10 k)
+
+-- a number of four or five digits, by its hundreds
+pub decimal_more : (n : ℕ) → 1000 ≤ n → n < 100000 → decimal (n / 100) ++ ((48 + n / 10 % 10) ∷ (48 + n % 10) ∷ []) ≡ decimal n
 unfolding decimal
-decimal_one n h = sym (decimal_small 4 n h)
+decimal_more n g h =
+    let e : n / 10 / 10 ≡ n / 100 = omega arith in
+    sym (decimal_large 3 n (omega arith) ∙ rw (decimal_large 2 (n / 10) (omega arith), e, append_assoc, decimal_three_most (n / 100) (omega arith)))
 
--- a number of so many digits has the same where there is room for more
-enough_step : (f g n : ℕ) → decimal_in g (n / 10) ≡ decimal_in f (n / 10) → Dec (n < 10) → decimal_in (suc g) n ≡ decimal_in (suc f) n
-enough_step f g n e (yes a) = decimal_small (suc g) n a ∙ sym (decimal_small (suc f) n a)
-enough_step f g n e (no a) = let l : 10 ≤ n = omega arith in rw (decimal_large g n l, decimal_large f n l, e)
-
-pub decimal_enough : (f g n : ℕ) → f ≤ g → n < 10 ^ suc f → decimal_in g n ≡ decimal_in f n
-decimal_enough zero g n h small = decimal_small g n small ∙ sym (decimal_small zero n small)
-decimal_enough (suc f) zero n h small = absurd (omega arith)
-decimal_enough (suc f) (suc g) n h small =
-    let p : 10 ^ suc (suc f) ≡ 10 * 10 ^ suc f = pow-succ' 10 (suc f) in
-    enough_step f g n (decimal_enough f g (n / 10) (omega arith) (omega arith)) (dec_lt n 10)
-
--- the last digit stands behind those of the tenth
-pub decimal_next : (n : ℕ) → 10 ≤ n → n < 100000 → decimal (n / 10) ++ ((48 + n % 10) ∷ []) ≡ decimal n
-unfolding decimal
-decimal_next n g h = rw (decimal_enough 3 4 (n / 10) (omega arith) (omega arith)) (sym (decimal_large 3 n g))
-
-pub decimal_next_length : (n : ℕ) → 10 ≤ n → n < 100000 → length (decimal (n / 10)) + 1 ≡ length (decimal n)
-decimal_next_length n g h = sym (length-append (decimal (n / 10)) ((48 + n % 10) ∷ [])) ∙ ap length (decimal_next n g h)
+pub decimal_more_length : (n : ℕ) → 1000 ≤ n → n < 100000 → length (decimal (n / 100)) + 2 ≡ length (decimal n)
+decimal_more_length n g h = sym (length-append (decimal (n / 100)) ((48 + n / 10 % 10) ∷ (48 + n % 10) ∷ [])) ∙ ap length (decimal_more n g h)
 
 -- a number has a digit
 pub decimal_some : (n : ℕ) → 1 ≤ length (decimal n)

@@ -2,10 +2,26 @@
 ghost use Rattle.std.specs.Prelude.{◌≡◌, ◌≤◌, ◌<◌, length};
 ghost use Rattle.text.specs.Written.{decimal};
 
-// A number of at most five digits has one more than its tenth.
+fn short_length(n: u32) -> usize
+    requires { n < 1000 }
+    ensures length { (result ≡ length (decimal n)) × (result ≤ 3) }
+{
+    if n < 10 {
+        return 1;
+    }
+    if n / 10 < 10 {
+        return 2;
+    }
+    3
+}
+
+// A number of at most five digits.
 pub fn number_length(n: u32) -> usize
     requires { n < 100000 }
     ensures length { (result ≡ length (decimal n)) × (result ≤ 5) }
 {
-    if n < 10 { 1 } else { number_length(n / 10) + 1 }
+    if n < 1000 {
+        return short_length(n);
+    }
+    short_length(n / 100) + 2
 }
