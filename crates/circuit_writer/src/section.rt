@@ -41,13 +41,13 @@ pub fn put_latches(buf: &mut [u8], at: usize, form: NormalForm) -> usize
 }
 
 // One of the three literals that a monitor says, by row.
-fn put_said<F: Fn(Wiring) -> u32>(buf: &mut [u8], at: usize, form: NormalForm, said: F) -> usize
-    requires fits { InNormalForm form × (at + 6 * form.rows ≤ length buf.old) }
+fn put_said<F: Fn(Wiring) -> u32>(buf: &mut [u8], at: usize, form: &NormalForm, said: F) -> usize
+    requires fits { InNormalForm form.now × (at + 6 * form.now.rows ≤ length buf.old) }
     requires callable { F.IsAlwaysCallable said }
     requires one { (w : Wiring) (l : ℕ) → F.post said w l → Contains (said_literals w) l }
     ensures text { (literal : MeantWiring → ℕ) → Says (F.post said) literal
-        → Wrote buf.old at (written_lines (said_lines literal form)) buf.new result }
-    ensures room { result ≤ at + 6 * form.rows }
+        → Wrote buf.old at (written_lines (said_lines literal form.now)) buf.new result }
+    ensures room { result ≤ at + 6 * form.now.rows }
 {
     let mut end = at;
     for (k, place) in form.places[..form.rows as usize].iter().enumerate() {
@@ -63,9 +63,9 @@ pub fn put_outputs(buf: &mut [u8], at: usize, form: NormalForm) -> usize
     ensures text { Wrote buf.old at (written_lines (output_lines form)) buf.new result }
     ensures room { result ≤ at + 18 * form.rows }
 {
-    let a = put_said(buf, at, form, |wiring| wiring.failed);
-    let b = put_said(buf, a, form, |wiring| wiring.accept);
-    put_said(buf, b, form, |wiring| wiring.pending)
+    let a = put_said(buf, at, &form, |wiring| wiring.failed);
+    let b = put_said(buf, a, &form, |wiring| wiring.accept);
+    put_said(buf, b, &form, |wiring| wiring.pending)
 }
 
 // The three gates of each row.

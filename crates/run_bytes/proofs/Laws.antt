@@ -8,8 +8,7 @@ use Rattle.tables.specs.declared.row.Row.{Row}
 use Rattle.tables.specs.declared.run.Run.{Run}
 use Rattle.tables.proofs.Places.{tabulate_ext, tabulate_get_d}
 use Rattle.run_bytes.specs.Bytes.{Fits, no_place, row_of, run_bytes, run_length}
-use Rattle.run_bytes.proofs.Decoding.{row_again, row_bytes, run_again, tail_bytes, word_bytes}
-use Rattle.run_bytes.proofs.Encoding.{word_once}
+use Rattle.run_bytes.proofs.Decoding.{row_again, row_bytes, run_again, tail_bytes, word_again, word_bytes}
 use Rattle.run_bytes.proofs.Positions.{bytes_length}
 
 pub run_length_lem : (run : Run) → length (run_bytes run) ≡ run_length
@@ -24,7 +23,8 @@ row_once x y p a b =
 module _ (a b : Run) (fa : Fits a) (fb : Fits b) (e : run_bytes a ≡ run_bytes b) where
   same_word : (i : ℕ) → i < 128 → get_or a.words i 0 ≡ get_or b.words i 0
   same_word i h =
-      word_once (get_or a.words i 0) (get_or b.words i 0) (fa.word i h) (fb.word i h) (λ j l. sym (word_bytes a refl i h j l) ∙ word_bytes b e i h j l)
+      sym (word_again (run_bytes a) (8 * i) (get_or a.words i 0) (fa.word i h) (word_bytes a refl i h) refl refl refl refl refl refl refl refl)
+      ∙ word_again (run_bytes a) (8 * i) (get_or b.words i 0) (fb.word i h) (word_bytes b e i h) refl refl refl refl refl refl refl refl
 
   same_words : a.words ≡ b.words
   same_words =

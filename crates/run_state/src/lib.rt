@@ -35,9 +35,11 @@ pub fn begin(rule: &[u8], state: &mut [u8]) -> Bytes
 pub fn take_cycle(state: &mut [u8], digits: &[u8]) -> Outcome
     ensures answer { TakesCycle state_of state.old digits.now result state.new }
 {
-    let Some(before) = run_bytes::read(state) else {
+    let held = run_bytes::read(state);
+    if !held.whole {
         return call_refused(Reason::CountOutOfRange);
-    };
+    }
+    let before = held.run;
     let told = run::take_cycle(before, digits);
     let outcome = told.outcome;
     match outcome {
@@ -55,13 +57,14 @@ pub fn take_cycle(state: &mut [u8], digits: &[u8]) -> Outcome
 pub fn verdict(state: &[u8]) -> Answer
     ensures answer { GivesVerdict state_of state.now result state.now }
 {
-    let Some(held) = run_bytes::read(state) else {
+    let held = run_bytes::read(state);
+    if !held.whole {
         return Answer::Refused(Refusal {
             reason: Reason::CountOutOfRange,
             file: 0,
             line: 0,
         });
-    };
-    let told = run::verdict(held);
+    }
+    let told = run::verdict(held.run);
     told.answer
 }

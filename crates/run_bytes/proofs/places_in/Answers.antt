@@ -10,7 +10,7 @@ use native.Mathlib.Omega.{arith}
 use Rattle.run_bytes.proofs.places_in.Goals as goal
 
 pub loop-k-init : goal.loop-k-init
-loop-k-init c = λ run fits e. fill_start 64 no_place (λ k. get_or run.formula.places k no_place)
+loop-k-init c = (search rules, λ run fits e. fill_start 64 no_place (λ k. get_or run.formula.places k no_place))
 
 pub loop-k-preserved : goal.loop-k-preserved
 loop-k-preserved c =
@@ -18,11 +18,13 @@ loop-k-preserved c =
     let first : get_or c.args.bytes.now (1024 + 3 * c.loop-k.k + 0) 0 ≡ get_or c.args.bytes.now (1024 + 3 * c.loop-k.k) 0 = ap (λ i. get_or c.args.bytes.now i 0) (omega arith) in
     let row : (run : Run) → c.args.bytes.now ≡ run_bytes run → c.with_numbers.result ≡ row_of run c.loop-k.k =
     λ run e. row_again (row_of run c.loop-k.k) c.table-kinds.ensures.answer (sym first ∙ row_bytes run e c.loop-k.k h 0 (omega arith)) c.kind_place.ensures.place.1
-    c.with_numbers.ensures.answer (row_bytes run e c.loop-k.k h 1 (omega arith)) (row_bytes run e c.loop-k.k h 2 (omega arith)) in
-    λ run fits e. fill_place 64 no_place (λ k. get_or run.formula.places k no_place) c.loop-k.k (c.loop-k.invariant run fits e) h (ap (λ r. record { row = r }) (row run e))
+    c.with_numbers.ensures.answer (row_bytes run e c.loop-k.k h 1 (omega arith)) (row_bytes run e c.loop-k.k h 2 (omega arith)) in (
+      search rules,
+      λ run fits e. fill_place 64 no_place (λ k. get_or run.formula.places k no_place) c.loop-k.k (c.loop-k.invariant.1 run fits e) h (ap (λ r. record { row = r }) (row run e)),
+    )
 
 pub returns : goal.returns
 returns c = record {
   places = let end : c.loop-k.k ≡ 64 = search rules in
-      λ run fits e. c.loop-k.invariant run fits e ∙ fill_list no_place run.formula.places end fits.places;
+      λ run fits e. c.loop-k.invariant.1 run fits e ∙ fill_list no_place run.formula.places end fits.places;
 }
