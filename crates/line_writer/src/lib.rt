@@ -22,6 +22,7 @@ fn put_part(buf: &mut [u8], at: usize, n: u32, behind: u8) -> usize
 }
 
 // One line of numbers.
+#[inline(always)]
 pub fn put_numbers(buf: &mut [u8], at: usize, numbers: &[u32]) -> usize
     requires { (0 < length numbers.now) × (at + 6 * length numbers.now ≤ length buf.old) × All (λ n. n < 100000) numbers.now }
     ensures text { Wrote buf.old at (written_lines (numbers.now ∷ [])) buf.new result }
