@@ -3,7 +3,7 @@
 
     (cd crates/citronhelm && rt lib) && (cd bench && cargo build --release)
     bench/stack.py             measured, with the bound beside it
-    bench/stack.py lazy        measured with what the loader takes to bind memcpy, memmove and memset at their first call
+    bench/stack.py lazy        measured with what the loader takes to bind memcpy and memset at their first call
     bench/stack.py bound       the bound alone, as the gate does it
 
 The first and the last fail where include/citronhelm.h promises less than is needed.
@@ -13,8 +13,8 @@ that a call took.
 
 The bound is read off the machine code and is one for all inputs: the frames along the deepest path of calls. It can be read off since no
 function calls itself, none is called by pointer, and each moves its stack pointer by constants, so that at each instruction it is as deep
-on every way there; where that is not so, this script fails. Of a function the deepest place counts, as if it called from there. For memcpy,
-memmove and memset it takes SYSTEM bytes."""
+on every way there; where that is not so, this script fails. Of a function the deepest place counts, as if it called from there. For memcpy
+and memset it takes SYSTEM bytes."""
 import collections
 import functools
 import os
@@ -128,7 +128,7 @@ def bounds():
 
     @functools.cache  # and a function that calls itself ends this in an error
     def need(name):
-        if name in ('memcpy', 'memmove', 'memset'):
+        if name in ('memcpy', 'memset'):
             return SYSTEM
         size, calls = frames[name]
         return 8 + size + max(map(need, calls), default=0)

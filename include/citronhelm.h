@@ -60,8 +60,8 @@ extern "C" {
 
 /*
  * How much stack a call needs at most, in bytes below the call: measured and rounded up; the machine code takes no more on any input
- * (docs/MEASURED.md, "Stack"). What memcpy, memmove and memset of the C library take is in it, but not what the dynamic loader takes to
- * bind them at their first call, where a program is linked so: 3,184 bytes where it was measured.
+ * (docs/MEASURED.md, "Stack"). What memcpy and memset of the C library take is in it, but not what the dynamic loader takes to bind
+ * them at their first call, where a program is linked so: 3,184 bytes where it was measured.
  */
 #define CITRONHELM_STACK_READ_RULE 2048u
 #define CITRONHELM_STACK_READ_TAKE 7168u

@@ -6,7 +6,7 @@ use native.Mathlib.Numerals.{add-one}
 use native.Mathlib.Decide.{dec_lt}
 use native.Mathlib.Omega.{arith}
 use lib.ListN.{length, get_or, set, take, drop, length-append, length-set, length-take, take-append-drop, length-map, get_or-map}
-use lib.Seq.{take_all, take-suc, drop-drop, drop-set-lt, take-suc-set, length-take-le, get_or-take}
+use lib.Seq.{paste, paste-suc, length-paste, take-paste, drop-paste, take_all, take-suc, drop-drop, drop-set-lt, take-suc-set, length-take-le, get_or-take}
 use borrow.Author.Tests.{lt-ltb, le-ltb, le-leb, lt-leb}
 use Rattle.text.proofs.Laws.{decimal_large, line_length}
 use Rattle.text.specs.Written.{decimal_in, decimal, written_line, written_body}
@@ -30,6 +30,19 @@ wrote_is {b} {a} {t} {u} {at} {e} q x = subst (λ t. Wrote b at t a e) q x
 
 pub wrote_byte : (b : List ℕ) (at v : ℕ) → at < length b → Wrote b at (v ∷ []) (set b at v) (at + 1)
 wrote_byte b at v h = record { next = refl; front = ap (λ n. take n (set b at v)) (add-one at) ∙ take-suc-set b at v h; rest = ap (λ n. drop n (set b at v)) (add-one at) ∙ drop-set-lt (suc at) b at v (omega arith) ∙ ap (λ n. drop n b) (sym (add-one at)); size = length-set b at v }
+
+-- ---- the loop that copies
+module _ (b : List ℕ) (at : ℕ) (s : List ℕ) (fits : at + length s ≤ length b) where
+  pub paste_more : (i : ℕ) (m : List ℕ) → m ≡ paste b at s i → i < length s → set m (at + i) (get_or s i 0) ≡ paste b at s (i + 1)
+  paste_more i m e h = ap (λ l. set l (at + i) (get_or s i 0)) e ∙ paste-suc b at s i 0 (omega arith) h ∙ ap (paste b at s) (sym (add-one i))
+
+  pub paste_end : (i : ℕ) (m : List ℕ) → m ≡ paste b at s i → i ≡ length s → Wrote b at s m (at + i)
+  paste_end i m e q = record {
+    next = ap (λ n. at + n) q;
+    front = ap (take (at + i)) e ∙ take-paste b at s i (omega arith) (omega arith) ∙ ap (λ l. take at b ++ l) (take_all i s (omega arith));
+    rest = ap (drop (at + i)) e ∙ drop-paste b at s i (omega arith) (omega arith);
+    size = ap length e ∙ length-paste b at s i (omega arith) (omega arith);
+  }
 
 -- ---- decimals of one byte
 module _ (n : ℕ) where

@@ -9,7 +9,9 @@ pub fn put(buf: &mut [u8], at: usize, text: &[u8]) -> usize
     requires { at + length text.now ≤ length buf.old }
     ensures text { Wrote buf.old at text.now buf.new result }
 {
-    buf[at..at + text.len()].copy_from_slice(text);
+    for (i, byte) in text.iter().enumerate() {
+        buf[at + i] = *byte;
+    }
     at + text.len()
 }
 
