@@ -7,8 +7,8 @@ use native.Mathlib.Nat.{eq-or-lt_of_le}
 use native.Mathlib.Omega.{arith}
 use lib.Dec.{ltb, leb}
 use borrow.Author.Tests.{not-true, leb-true, leb-false}
-use Rattle.std.proofs.Common.{Some}
 use Rattle.std.specs.Bool.{then_some}
+use Rattle.std.specs.Prelude.{Ok, ok_or}
 use Rattle.std.proofs.Math.Bool.{and-true}
 use Rattle.std.proofs.lemmas.Bool.{or_cases, or_parts, or_from, and_parts}
 use Rattle.tables.specs.Choice.{pick}
@@ -52,9 +52,9 @@ stays_on true false false h false x = refl
 stays_on false true w h false x = refl
 stays_on false false w h false x = refl
 
-some_given : (b : Bool) {x y : Bool} → then_some b x ≡ Some y → (b ≡ true) × (x ≡ y)
-some_given true e = (refl, cc)
-some_given false e = cc
+ok_given : (b : Bool) {x y : Bool} → ok_or (then_some b x) x ≡ Ok y → (b ≡ true) × (x ≡ y)
+ok_given true e = (refl, cc)
+ok_given false e = cc
 
 module _ (monitor : RowMonitor) (course : Course) where
   abbrev row : Row
@@ -147,11 +147,11 @@ module _ (monitor : RowMonitor) (course : Course) where
 
   -- ---- the word's cycles are gone through
 
-  module _ {i c : ℕ} {report : RowReport} (r : ReportTo monitor course i c report) (w : WholeWord c i course) {behind : Bool} (given : word_report monitor c report.pending ≡ Some behind) where
+  module _ {i c : ℕ} {report : RowReport} (r : ReportTo monitor course i c report) (w : WholeWord c i course) {behind : Bool} (given : word_report monitor c report.pending ≡ Ok behind) where
     whole : Clean (c + 64) w.recorded 64 i × (pending (i + 64) ≡ behind)
     unfolding word_report
     whole =
-        let told = some_given _ given in
+        let told = ok_given _ given in
         let none = and_parts (not (some 64 c (λ x. active x && failing row first second (c + 64) x))) (not (report.pending && lost (c + 64) w.recorded c)) told.0 in
         let not-lost = not-true (report.pending && lost (c + 64) w.recorded c) none.1 in
         let x = goes (c + 64) w.recorded 64 i c refl (λ u. r.at) (not-true (some 64 c (λ x. active x && failing row first second (c + 64) x)) none.0) (ap (λ p. p && lost (c + 64) w.recorded c) (sym r.pending) ∙ not-lost) in

@@ -1,5 +1,5 @@
 -- The monitor of one row in the 64 cycles of a word at once. Assumes nothing.
-use Rattle.std.specs.Prelude.{ℕ, zero, suc, ◌+◌, ◌-◌, ◌%◌, ◌≤◌, ◌≡◌, Bool, true, false, not, ◌&&◌, ◌||◌, ◌⊎◌, Option}
+use Rattle.std.specs.Prelude.{ℕ, zero, suc, ◌+◌, ◌-◌, ◌%◌, ◌≤◌, ◌≡◌, Bool, true, false, not, ◌&&◌, ◌||◌, ◌⊎◌, Result, ok_or}
 use Rattle.std.specs.Bool.{then_some}
 use Rattle.tables.specs.Bit.{bit_at, word_from}
 use Rattle.tables.specs.declared.row.Row.{Row}
@@ -52,11 +52,15 @@ module _ (row : Row) (f g : ℕ → Bool) (e : ℕ) where
   abbrev pub pending_from : ℕ → ℕ → (ℕ → Bool) → Bool → Bool
   pending_from n b z p = some n b (λ i. z i && staying i) || (p && held b)
 
--- whether it is pending behind the word at b, where none of its cycles fails
-unfoldable pub word_report : RowMonitor → ℕ → Bool → Option Bool
-word_report monitor b p = then_some
-    (clean_from monitor.row (bit_at monitor.first) (bit_at monitor.second) (b + 64) 64 b (bit_at monitor.active) p)
-    (pending_from monitor.row (bit_at monitor.first) (bit_at monitor.second) (b + 64) 64 b (bit_at monitor.active) p)
+-- whether it is pending behind the word at b: Ok where none of its cycles fails
+unfoldable pub word_report : RowMonitor → ℕ → Bool → Result Bool Bool
+word_report monitor b p = ok_or (then_some clean behind) behind
+  where
+    clean : Bool
+    clean = clean_from monitor.row (bit_at monitor.first) (bit_at monitor.second) (b + 64) 64 b (bit_at monitor.active) p
+
+    behind : Bool
+    behind = pending_from monitor.row (bit_at monitor.first) (bit_at monitor.second) (b + 64) 64 b (bit_at monitor.active) p
 
 -- the 64 cycles from cycle i of the course on are the word of the recording that begins at c, and either all of them count or none
 pub record WholeWord (c i : ℕ) (course : Course) : Type 0 where

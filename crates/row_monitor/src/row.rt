@@ -102,7 +102,7 @@ pub fn monitor_row(monitor: RowMonitor, course: Course) -> Result<RowReport, u16
     while i < course.end {
         let counts = course.from <= i;
         if course.whole_word(c, i)
-            && let Some(pending) = word::monitor_word(&monitor, (c / 64) as usize, report.pending)
+            && let Ok(pending) = word::monitor_word(&monitor, (c / 64) as usize, report.pending)
             && (!counts | report.accepted | waiting.accept | !pending)
         {
             report.pending = pending;

@@ -107,9 +107,9 @@ fn row_moves(row: Row, a: u64, b: u64) -> Moves
     }
 }
 
-// Whether the monitor is pending behind the word, where nothing fails in it. Each activation is followed forwards, all of them at once:
-// it fails or stays where it does so, or is pending and a pending does so from the next cycle on.
-pub fn monitor_word(monitor: &RowMonitor, at: usize, pending: bool) -> Option<bool>
+// Whether the monitor is pending behind the word: `Ok` where nothing fails in it. (In an `Err` it does not count.) Each activation is
+// followed forwards, all of them at once: it fails or stays where it does so, or is pending and a pending does so from the next cycle on.
+pub fn monitor_word(monitor: &RowMonitor, at: usize, pending: bool) -> Result<bool, bool>
     requires { at < 4 }
     ensures answer { result ≡ word_report monitor.now (at * 64) pending }
 {
@@ -122,5 +122,6 @@ pub fn monitor_word(monitor: &RowMonitor, at: usize, pending: bool) -> Option<bo
     let failing = m.fails | (m.waits & lanes::word::next_from(dropped, 0));
     let staying = m.waits & lanes::word::next_from(held, 1);
     let clean = !any(active & failing) & !(pending & first(dropped));
-    clean.then_some(any(active & staying) | (pending & first(held)))
+    let stays = any(active & staying) | (pending & first(held));
+    clean.then_some(stays).ok_or(stays)
 }

@@ -13,7 +13,7 @@ pub loop-i-preserved-in-loop-i : goal.loop-i-preserved-in-loop-i
 loop-i-preserved-in-loop-i c =
     let w = c.whole_word.ensures.answer c.if-whole_word.true in
     let q : c.loop-i.c / 64 * 64 ≡ c.loop-i.c = omega (arith, w.aligned) in
-    let given = sym (ap (λ b. word_report c.args.monitor b c.loop-i.report.pending) q) ∙ sym c.monitor_word.ensures.answer ∙ c.in-Some.is in
+    let given = sym (ap (λ b. word_report c.args.monitor b c.loop-i.report.pending) q) ∙ sym c.monitor_word.ensures.answer ∙ c.in-Ok.is in
     let settled = rw c.row-waiting.ensures.answer at c.if-counts-report.true in
     let to = word_goes c.args.monitor c.args.course c.loop-i.invariant.to w given settled c.next_cycle-c.ensures.answer in
     record { small = cycle_small c.args.monitor c.args.course c.requires to; to = to }

@@ -17,5 +17,5 @@ returns c = record {
       let h = c.carry_from-held.ensures.word b (λ j. (when_pending c.args.monitor.now.row (f j) (g j)).pending) (λ j. false) true ms.holds (word_none 64 b) refl in
       let fails = failing_word (bit_at c.args.monitor.now.active) c.word_of-active.ensures.answer ms (c.next_from.ensures.word b (dropped c.args.monitor.now.row f g (b + 64)) d (dropped_end c.args.monitor.now.row f g b)) in
       let stays = staying_word (bit_at c.args.monitor.now.active) c.word_of-active.ensures.answer ms (c.next_from-2.ensures.word b (held c.args.monitor.now.row f g (b + 64)) h (held_end c.args.monitor.now.row f g b)) in
-      rw (c.then_some.ensures, c.any.ensures.word b (λ i. bit_at c.args.monitor.now.active i && failing c.args.monitor.now.row f g (b + 64) i) fails, c.first.ensures.word b (dropped c.args.monitor.now.row f g (b + 64)) d, c.any-2.ensures.word b (λ i. bit_at c.args.monitor.now.active i && staying c.args.monitor.now.row f g (b + 64) i) stays, c.first-2.ensures.word b (held c.args.monitor.now.row f g (b + 64)) h);
+      rw (c.ok_or.ensures.value, c.then_some.ensures, c.any.ensures.word b (λ i. bit_at c.args.monitor.now.active i && failing c.args.monitor.now.row f g (b + 64) i) fails, c.first.ensures.word b (dropped c.args.monitor.now.row f g (b + 64)) d, c.any-2.ensures.word b (λ i. bit_at c.args.monitor.now.active i && staying c.args.monitor.now.row f g (b + 64) i) stays, c.first-2.ensures.word b (held c.args.monitor.now.row f g (b + 64)) h);
 }
