@@ -17,14 +17,14 @@ fn rounds(case: &[u8]) -> u8 {
 }
 
 // The take file of the written-out form, or `none`. The longest take file has 32 signals, 256 cycles and no loop.
-fn show_take<W: Write>(out: &mut W, take: Option<Trace>) -> io::Result<()> {
+fn show_take<W: Write>(out: &mut W, take: Result<Trace, Trace>) -> io::Result<()> {
     let mut text = [0u8; 9659];
     match take {
-        Some(trace) => {
+        Ok(trace) => {
             let answer = take_writer::write_take(trace, &mut text);
             show::text(out, answer, &text)
         }
-        None => printing::print_bytes(out, b"none\n"),
+        Err(_) => printing::print_bytes(out, b"none\n"),
     }
 }
 

@@ -10,9 +10,8 @@ use native.Mathlib.Nat.{mul-le-mul_right, zero-div}
 use native.Mathlib.Decide.{dec_le, ℕ_discrete}
 use native.Mathlib.Omega.{arith}
 use lib.ListN.{get_or-eq_default}
-use Rattle.std.specs.Prelude.{Some, None}
-use Rattle.std.specs.Option.{unwrap_or}
-use Rattle.std.proofs.lemmas.Option.{none-some, same_Some}
+use Rattle.std.specs.Prelude.{Result, Ok, Err}
+use Rattle.std.specs.Result.{result_unwrap_or}
 use Rattle.tables.specs.Bit.{bit_at}
 use Rattle.tables.specs.declared.row.NormalForm.{NormalForm}
 use Rattle.tables.specs.declared.trace.Ending.{Ending}
@@ -100,41 +99,47 @@ module _ (t : Trace) (l : ℕ) where
     trace_from : WrittenFrom t l d u
     trace_from = record { ending = refl; cycles = refl; signals = refl; most = λ h. fits; same = same; repeats = repeats }
 
+ok_only : {out : Result Trace Trace} {u t : Trace} → out ≡ Ok u → out ≡ Err t → ⊥
+ok_only e f = cc
+
+same_ok : {out : Result Trace Trace} {u v : Trace} → out ≡ Ok u → out ≡ Ok v → u ≡ v
+same_ok e f = cc
+
 module _ (t : Trace) (l : ℕ) (loops : t.ending ≡ Loop l) where
   -- with no rounds it is the take itself, and otherwise it goes by its cycles
-  pub written_whole : (d : ℕ) → t.cycles + round_cycles t l d ≤ 256 → (u : Trace) × (written_out t d ≡ Some u)
+  pub written_whole : (d : ℕ) → t.cycles + round_cycles t l d ≤ 256 → (u : Trace) × (written_out t d ≡ Ok u)
   written_whole d fits = by (ℕ_discrete d 0)
     where
-      by : Dec (d ≡ 0) → (u : Trace) × (written_out t d ≡ Some u)
+      by : Dec (d ≡ 0) → (u : Trace) × (written_out t d ≡ Ok u)
       by (yes z) = (t, ap (written_out t) z ∙ written_none t l loops)
       by (no n) = (_, written_some t l d loops n ∙ loop_whole t l (round_cycles t l d) fits)
 
   -- it is too long exactly where its cycles pass 256: without rounds never
-  pub written_too_long : t.cycles ≤ 256 → (d : ℕ) → (written_out t d ≡ None) ↔ (256 < t.cycles + round_cycles t l d)
+  pub written_too_long : t.cycles ≤ 256 → (d : ℕ) → (written_out t d ≡ Err t) ↔ (256 < t.cycles + round_cycles t l d)
   written_too_long most d = (λ e. to e (dec_le (t.cycles + round_cycles t l d) 256), λ h. from h (ℕ_discrete d 0))
     where
-      to : written_out t d ≡ None → Dec (t.cycles + round_cycles t l d ≤ 256) → 256 < t.cycles + round_cycles t l d
-      to e (yes h) = let w = written_whole d h in absurd (none-some w.0 (sym e ∙ w.1))
+      to : written_out t d ≡ Err t → Dec (t.cycles + round_cycles t l d ≤ 256) → 256 < t.cycles + round_cycles t l d
+      to e (yes h) = let w = written_whole d h in absurd (ok_only w.1 e)
       to e (no h) = omega arith
 
-      from : 256 < t.cycles + round_cycles t l d → Dec (d ≡ 0) → written_out t d ≡ None
+      from : 256 < t.cycles + round_cycles t l d → Dec (d ≡ 0) → written_out t d ≡ Err t
       from h (yes z) = let p : t.cycles + round_cycles t l d ≡ t.cycles + round_cycles t l 0 = ap (λ x. t.cycles + round_cycles t l x) z in absurd (omega (arith, p))
       from h (no n) = written_some t l d loops n ∙ loop_too_long t l (round_cycles t l d) h
 
   -- THE WRITTEN-OUT TAKE HAS THE SAME ENDLESS REPETITION
-  pub written_from : (d : ℕ) (u : Trace) → written_out t d ≡ Some u → WrittenFrom t l d u
+  pub written_from : (d : ℕ) (u : Trace) → written_out t d ≡ Ok u → WrittenFrom t l d u
   written_from d u e = by (ℕ_discrete d 0) (dec_le (t.cycles + round_cycles t l d) 256)
     where
-      is : (v : Trace) → written_out t d ≡ Some v → WrittenFrom t l d v → WrittenFrom t l d u
-      is v w from = subst (WrittenFrom t l d) (same_Some v u (sym w ∙ e)) from
+      is : (v : Trace) → written_out t d ≡ Ok v → WrittenFrom t l d v → WrittenFrom t l d u
+      is v w from = subst (WrittenFrom t l d) (same_ok w e) from
 
       by : Dec (d ≡ 0) → Dec (t.cycles + round_cycles t l d ≤ 256) → WrittenFrom t l d u
       by (yes z) q = is t (ap (written_out t) z ∙ written_none t l loops) (subst⁻¹ (λ x. WrittenFrom t l x t) z (none_from t l loops))
       by (no n) (yes fits) = is _ (written_some t l d loops n ∙ loop_whole t l (round_cycles t l d) fits) (trace_from t l d fits)
       by (no n) (no long) =
-          absurd (none-some u (sym (written_some t l d loops n ∙ loop_too_long t l (round_cycles t l d) (omega arith)) ∙ e))
+          absurd (ok_only e (written_some t l d loops n ∙ loop_too_long t l (round_cycles t l d) (omega arith)))
 
-  pub written_unrolled : InRange t → (d : ℕ) (u : Trace) → written_out t d ≡ Some u
+  pub written_unrolled : InRange t → (d : ℕ) (u : Trace) → written_out t d ≡ Ok u
       → (i s : ℕ) → s ≤ 32 → unrolled u (l + round_cycles t l d) i s ≡ unrolled t l i s
   written_unrolled range d u e = (written_from d u e).same (loop_below range l loops)
 
@@ -142,7 +147,7 @@ module _ (t : Trace) (l : ℕ) (loops : t.ending ≡ Loop l) where
 
 pub covered_open : (g : NormalForm) (t : Trace) → t.ending ≡ Open → covered g t ≡ t
 unfolding covered
-covered_open g t e = ap (λ x. unwrap_or x t) (written_open t (nesting g) e)
+covered_open g t e = ap (λ x. result_unwrap_or x t) (written_open t (nesting g) e)
 
 module _ (g : NormalForm) (t : Trace) where
   module _ (l : ℕ) (loops : t.ending ≡ Loop l) (able : Coverable g t) where
@@ -150,7 +155,7 @@ module _ (g : NormalForm) (t : Trace) where
     unfolding covered
     covered_loop_lem =
         let w = written_whole t l loops (nesting g) (subst (CoverableIn g t) loops able) in
-        written_from t l loops (nesting g) (covered g t) (w.1 ∙ ap Some (sym (ap (λ x. unwrap_or x t) w.1)))
+        written_from t l loops (nesting g) (covered g t) (w.1 ∙ ap Ok (sym (ap (λ x. result_unwrap_or x t) w.1)))
 
     pub covered_unrolled : InRange t → (i s : ℕ) → s ≤ 32 → unrolled (covered g t) (l + round_cycles t l (nesting g)) i s ≡ unrolled t l i s
     covered_unrolled range = covered_loop_lem.same (loop_below range l loops)
@@ -193,9 +198,9 @@ pub covered_unnested : (g : NormalForm) (t : Trace) → nesting g ≡ 0 → cove
 unfolding covered
 covered_unnested g t none = by t.ending refl
   where
-    by : (x : Ending) → t.ending ≡ x → unwrap_or (written_out t (nesting g)) t ≡ t
-    by Open e = ap (λ x. unwrap_or x t) (written_open t (nesting g) e)
-    by (Loop l) e = ap (λ d. unwrap_or (written_out t d) t) none ∙ ap (λ x. unwrap_or x t) (written_none t l e)
+    by : (x : Ending) → t.ending ≡ x → result_unwrap_or (written_out t (nesting g)) t ≡ t
+    by Open e = ap (λ x. result_unwrap_or x t) (written_open t (nesting g) e)
+    by (Loop l) e = ap (λ d. result_unwrap_or (written_out t d) t) none ∙ ap (λ x. result_unwrap_or x t) (written_none t l e)
 
 -- ---- for the time being: no kind looks back, so that no rounds are written out
 

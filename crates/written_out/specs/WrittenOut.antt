@@ -1,6 +1,6 @@
 -- The take with rounds of its loop written out (02, request 6: "the take with that many rounds written out before its loop"). Assumes
 -- nothing.
-use Rattle.std.specs.Prelude.{ℕ, zero, suc, ◌+◌, ◌*◌, ◌-◌, ◌&&◌, List, [], Option, Some, None, ltb, leb, get_or}
+use Rattle.std.specs.Prelude.{ℕ, zero, suc, ◌+◌, ◌*◌, ◌-◌, ◌&&◌, List, [], Result, Ok, Err, ltb, leb, get_or}
 use Rattle.tables.specs.Bit.{bit_at, lane_of}
 use Rattle.tables.specs.Choice.{pick}
 use Rattle.tables.specs.Place.{tabulate}
@@ -28,15 +28,15 @@ written_trace t l more = record {
   lanes = written_lanes t.lanes t.cycles l (t.cycles + more);
 }
 
--- "a take whose written-out form passes 256 cycles" has none
-abbrev pub written_loop : Trace → ℕ → ℕ → Option Trace
-written_loop t l more = pick (leb (t.cycles + more) 256) (Some (written_trace t l more)) None
+-- "a take whose written-out form passes 256 cycles" has none: then it is handed back as it stands
+abbrev pub written_loop : Trace → ℕ → ℕ → Result Trace Trace
+written_loop t l more = pick (leb (t.cycles + more) 256) (Ok (written_trace t l more)) (Err t)
 
 -- no rounds: the take itself; an open one has no loop
-abbrev pub written_in : Trace → Ending → ℕ → Option Trace
-written_in t Open rounds = Some t
-written_in t (Loop l) zero = Some t
+abbrev pub written_in : Trace → Ending → ℕ → Result Trace Trace
+written_in t Open rounds = Ok t
+written_in t (Loop l) zero = Ok t
 written_in t (Loop l) (suc rounds) = written_loop t l (round_cycles t l (suc rounds))
 
-abbrev pub written_out : Trace → ℕ → Option Trace
+abbrev pub written_out : Trace → ℕ → Result Trace Trace
 written_out t rounds = written_in t t.ending rounds

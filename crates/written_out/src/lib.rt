@@ -31,13 +31,13 @@ fn lanes_out(lanes: [Lane; 32], cycles: usize, start: usize, last: usize) -> [La
     lanes.map(|lane| lane_out(lane, cycles, start, last))
 }
 
-// So many cycles more before a loop, where there are at most 256 then.
-fn loop_out(trace: Trace, start: u16, more: u32) -> Option<Trace>
+// So many cycles more before a loop, where there are at most 256 then; else the trace as it stands is handed back.
+fn loop_out(trace: Trace, start: u16, more: u32) -> Result<Trace, Trace>
     requires { (start < trace.cycles) × (more < 65536) }
     ensures answer { result ≡ written_loop trace start more }
 {
     if trace.cycles as u32 + more > 256 {
-        return None;
+        return Err(trace);
     }
     let shift = more as u16;
     let cycles = trace.cycles + shift;
@@ -48,7 +48,7 @@ fn loop_out(trace: Trace, start: u16, more: u32) -> Option<Trace>
         start as usize,
         cycles as usize,
     );
-    Some(Trace {
+    Ok(Trace {
         signals: trace.signals,
         cycles,
         ending: Ending::Loop(moved),
@@ -56,16 +56,17 @@ fn loop_out(trace: Trace, start: u16, more: u32) -> Option<Trace>
     })
 }
 
-// Without rounds it is the trace as it stands, and an open one has no loop. None where it would have more than 256 cycles.
-pub fn written_out(trace: Trace, rounds: u8) -> Option<Trace>
+// Without rounds it is the trace as it stands, and an open one has no loop. Where it would have more than 256 cycles, the trace as it
+// stands is handed back.
+pub fn written_out(trace: Trace, rounds: u8) -> Result<Trace, Trace>
     requires { InRange trace }
     ensures answer { result ≡ written_out trace rounds }
 {
     match trace.ending {
-        Ending::Open => Some(trace),
+        Ending::Open => Ok(trace),
         Ending::Loop(start) => {
             if rounds == 0 {
-                return Some(trace);
+                return Ok(trace);
             }
             let more = rounds as u32 * (trace.cycles - start) as u32;
             loop_out(trace, start, more)

@@ -1,6 +1,6 @@
 use Prim.Native.Nat.{◌+◌, ◌≤◌, ◌<◌}
 use mathlib.Core.Path.{sym, ap, ◌∙◌}
-use Rattle.std.specs.Prelude.{Some}
+use Rattle.std.specs.Prelude.{Ok}
 use borrow.Author.Rules.{rules}
 use Rattle.tables.specs.declared.trace.Ending.TheVariants.{Loop}
 use Rattle.written_out.proofs.Whole.{loop_whole, loop_too_long}
@@ -15,7 +15,7 @@ returns-then-trace-more-gt256 c = record {
 pub returns : goal.returns
 returns c = record {
   answer = let h : c.args.trace.cycles + c.args.more ≤ 256 = search rules in
-      ap (λ ls. Some (record {
+      ap (λ ls. Ok (record {
         signals = c.args.trace.signals;
         cycles = c.args.trace.cycles + c.args.more;
         ending = Loop (c.args.start + c.args.more);

@@ -1,5 +1,5 @@
 use mathlib.Core.Path.{◌≡◌, sym, ap, ◌∙◌}
-use Rattle.std.specs.Prelude.{Some}
+use Rattle.std.specs.Prelude.{Ok}
 use native.Mathlib.Omega.{arith}
 use borrow.Author.Rules.{rules}
 use Rattle.written_out.specs.WrittenOut.{written_out}
@@ -8,7 +8,7 @@ use Rattle.written_out.proofs.written_out.Goals as goal
 
 pub returns-then-rounds-eq0 : goal.returns-then-rounds-eq0
 returns-then-rounds-eq0 c = record {
-  answer = let e : written_out c.args.trace c.args.rounds ≡ Some c.args.trace =
+  answer = let e : written_out c.args.trace c.args.rounds ≡ Ok c.args.trace =
       ap (written_out c.args.trace) c.if-rounds-eq0.true ∙ written_none c.args.trace _ c.in-Loop.is in
       sym e;
 }
