@@ -30,6 +30,14 @@ unfolding lane_of
 lane_by_words l f long is =
     ap (λ ws. record { words = ws }) (sym (tabulate_get_d l.words 4 0 long) ∙ tabulate_ext 4 (λ i. get_or l.words i 0) (λ i. word_from 64 (i * 64) f) is)
 
+-- what holds of the four words one by one
+pub each_word : (P : ℕ → Type 0) → P 0 → P 1 → P 2 → P 3 → (i : ℕ) → i < 4 → P i
+each_word P p q r s zero h = p
+each_word P p q r s (suc zero) h = q
+each_word P p q r s (suc (suc zero)) h = r
+each_word P p q r s (suc (suc (suc zero))) h = s
+each_word P p q r s (suc (suc (suc (suc i)))) h = absurd (omega arith)
+
 -- an operation on words, bit by bit, is one on lanes
 module _ (op : ℕ → ℕ → ℕ) (on : Bool → Bool → Bool) (law : (b : ℕ) (f g : ℕ → Bool) → op (word_from 64 b f) (word_from 64 b g) ≡ word_from 64 b (λ i. on (f i) (g i))) where
   pub lane_pointwise : (l m r : Lane) → WordByWord (λ x y z. z ≡ op x y) l m r → (f g : ℕ → Bool) → l ≡ lane_of f → m ≡ lane_of g → r ≡ lane_of (λ i. on (f i) (g i))

@@ -98,10 +98,10 @@ module _ (b : ℕ) (k g : ℕ → Bool) (ke : Ends (b + 64) k) (ge : Ends (b + 6
         goals = q ∙ rw (o.keeps, o.goals, gw, word_and 64 b (kept_for k (suc s)) (λ i. approximant k g false (suc s) (i + suc s))) (word_or 64 b _ _) ∙ ap (word_from 64 b) (fun_ext (λ i. sym (goal_twice k g (suc s) i)));
       }
 
-  -- k doublings
-  pub of_doubled : (k : ℕ) (x y : Stretch) → OfLength (2 ^ k) x → y.keep ≡ bit_and x.keep (x.keep / 2 ^ 2 ^ k) → y.goal ≡ bit_or x.goal (bit_and x.keep (x.goal / 2 ^ 2 ^ k)) → OfLength (2 ^ (k + 1)) y
-  of_doubled n x y o p q =
+  -- k doublings, and one more by s cycles
+  pub of_doubled : (k s : ℕ) → s ≡ 2 ^ k → (x y : Stretch) → OfLength (2 ^ k) x → y.keep ≡ bit_and x.keep (x.keep / 2 ^ s) → y.goal ≡ bit_or x.goal (bit_and x.keep (x.goal / 2 ^ s)) → OfLength (2 ^ (k + 1)) y
+  of_doubled n s is x y o p q =
       let some : 1 ≤ 2 ^ n = pow_pos n in
-      let s : 2 ^ n ≡ suc (2 ^ n - 1) = omega arith in
+      let l : 2 ^ n ≡ suc (2 ^ n - 1) = omega arith in
       let e : 2 ^ (n + 1) ≡ suc (2 ^ n - 1) + suc (2 ^ n - 1) = let z : n + 1 ≡ suc n = omega arith in rw z (omega (arith, pow-suc 2 n)) in
-      rw e (of_twice (2 ^ n - 1) x y (rw s at o) (rw s at p) (rw s at q))
+      rw e (of_twice (2 ^ n - 1) x y (rw l at o) (rw (is, l) at p) (rw (is, l) at q))

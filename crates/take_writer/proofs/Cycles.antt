@@ -1,11 +1,15 @@
 -- The digits of a cycle and the lines of the cycles, one more at a time. Assumes nothing.
 use Prim.Native.Nat.{ℕ, ◌+◌, ◌≤◌, ◌<◌, min}
 use mathlib.Core.Path.{◌≡◌, sym, ap, ◌∙◌}
-use mathlib.Core.List.{List, [], ◌∷◌, ◌++◌}
+use mathlib.Core.List.{List, [], ◌∷◌, ◌++◌, map, map-append}
+use mathlib.Core.Bool.{Bool}
 use native.Mathlib.Nat.{zero-add}
+use native.Mathlib.Numerals.{add-one}
 use native.Mathlib.Omega.{arith}
 use lib.ListN.{length, get_or, take, length-append, length-map}
-use lib.Seq.{take_all, length-take-le}
+use lib.Seq.{take_all, take-suc, length-take-le}
+use Rattle.tables.specs.Choice.{pick}
+use Rattle.tables.specs.declared.trace.Lane.{Lane}
 use Rattle.tables.specs.declared.trace.Trace.{Trace}
 use Rattle.tables.proofs.Places.{length_tabulate, get_d_tabulate}
 use Rattle.text.specs.Written.{decimal, digits_text, written_line, written_body}
@@ -13,6 +17,16 @@ use Rattle.text.proofs.Laws.{line_length, text_length}
 use Rattle.take_file.specs.Valid.{InRange}
 use Rattle.take_file.specs.Written.{cycle_of, cycles_of}
 use Rattle.writing.proofs.Texts.{body_from, body_prefix}
+
+-- ---- the digits of a cycle: the next lane's stands behind those of the first k
+pub digits_next : (on : Lane → Bool) (lanes : List Lane) (k : ℕ) (d : Lane) → k < length lanes
+    → digits_text (map on (take k lanes)) ++ (pick (on (get_or lanes k d)) 49 48 ∷ []) ≡ digits_text (map on (take (k + 1) lanes))
+digits_next on lanes k d h = sym (
+    ap (λ n. digits_text (map on (take n lanes))) (add-one k)
+    ∙ ap (λ ls. digits_text (map on ls)) (take-suc lanes k d h)
+    ∙ ap digits_text (map-append on (take k lanes) (get_or lanes k d ∷ []))
+    ∙ map-append (λ b. pick b 49 48) (map on (take k lanes)) (on (get_or lanes k d) ∷ [])
+    )
 
 -- ---- the line of one cycle
 module _ (t : Trace) (full : length t.lanes ≡ 32) (ok : InRange t) where

@@ -1,9 +1,21 @@
-use borrow.Author.Rules.{rules}
+-- One search finds the words' equations: they stand one by one here so that an edit shows its fact.
 use mathlib.Core.Bool.{◌||◌}
+use native.Mathlib.Omega.{arith}
 use lib.Bits.{bit_or}
 use Rattle.lanes.proofs.Words.{word_or}
-use Rattle.lanes.proofs.LaneWords.{lane_pointwise}
+use Rattle.lanes.proofs.LaneWords.{each_word, lane_pointwise}
 use Rattle.lanes.proofs.lane.either.Goals as goal
 
 pub returns : goal.returns
-returns c = record { lane = lane_pointwise bit_or ◌||◌ (word_or 64) c.args.a c.args.b c.word_by_word.result (c.word_by_word.ensures.words.0, λ i h. search (rules, c.word_by_word.ensures.words.1)) }
+returns c =
+    let w = c.word_by_word.ensures.words in
+    record {
+      lane = lane_pointwise bit_or ◌||◌ (word_or 64) c.args.a c.args.b c.word_by_word.result (
+        w.0,
+        each_word _
+            (omega (arith, w.1 0 (omega arith)))
+            (omega (arith, w.1 1 (omega arith)))
+            (omega (arith, w.1 2 (omega arith)))
+            (omega (arith, w.1 3 (omega arith))),
+      );
+    }
