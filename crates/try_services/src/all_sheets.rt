@@ -117,6 +117,7 @@ fn report<R: Files, W: Write>(rt: &R, out: &mut W, case: &[u8]) -> io::Result<()
 }
 
 // Whether the case is one of these; if so, it is tried.
+#[inline(never)]
 pub fn tried<R: Files, W: Write>(rt: &R, out: &mut W, case: &[u8]) -> io::Result<bool> {
     if case::names(case, b"all_sheets") {
         report(rt, out, case)?;

@@ -52,6 +52,7 @@ fn simulate<R: Files, W: Write>(rt: &R, out: &mut W, case: &[u8]) -> io::Result<
 }
 
 // Whether the case is one of these; if so, it is tried.
+#[inline(never)]
 pub fn tried<R: Files, W: Write>(rt: &R, out: &mut W, case: &[u8]) -> io::Result<bool> {
     if case::names(case, b"read_circuit") {
         read_circuit(rt, out, case)?;

@@ -40,6 +40,7 @@ fn sheet<R: Files, W: Write>(rt: &R, out: &mut W, case: &[u8]) -> io::Result<()>
 }
 
 // Whether the case is one of these; if so, it is tried.
+#[inline(never)]
 pub fn tried<R: Files, W: Write>(rt: &R, out: &mut W, case: &[u8]) -> io::Result<bool> {
     if case::names(case, b"normal_length") {
         normal(rt, out, case, Sign::Plain)?;

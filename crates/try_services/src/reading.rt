@@ -29,6 +29,7 @@ fn read_sheet<R: Files, W: Write>(rt: &R, out: &mut W, case: &[u8]) -> io::Resul
 }
 
 // Whether the case is one of these; if so, it is tried.
+#[inline(never)]
 pub fn tried<R: Files, W: Write>(rt: &R, out: &mut W, case: &[u8]) -> io::Result<bool> {
     if case::names(case, b"read_rule") {
         read_rule(rt, out, case)?;

@@ -49,6 +49,7 @@ fn written_out<R: Files, W: Write>(rt: &R, out: &mut W, case: &[u8]) -> io::Resu
 }
 
 // Whether the case is one of these; if so, it is tried.
+#[inline(never)]
 pub fn tried<R: Files, W: Write>(rt: &R, out: &mut W, case: &[u8]) -> io::Result<bool> {
     if case::names(case, b"written_out") {
         written_out(rt, out, case)?;

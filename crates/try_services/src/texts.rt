@@ -37,6 +37,7 @@ fn check_sheet<R: Files, W: Write>(rt: &R, out: &mut W, case: &[u8]) -> io::Resu
 }
 
 // Whether the case is one of these; if so, it is tried.
+#[inline(never)]
 pub fn tried<R: Files, W: Write>(rt: &R, out: &mut W, case: &[u8]) -> io::Result<bool> {
     if case::names(case, b"judge") {
         judge(rt, out, case)?;
