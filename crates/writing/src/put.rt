@@ -9,6 +9,7 @@ pub fn put(buf: &mut [u8], at: usize, text: &[u8]) -> usize
     requires { at + length text.now ≤ length buf.old }
     ensures text { Wrote buf.old at text.now buf.new result }
 {
+    // Stays: by `copy_from_slice` the archive for C needs `memmove` from outside, which it did not before.
     for (i, byte) in text.iter().enumerate() {
         buf[at + i] = *byte;
     }
