@@ -1,7 +1,7 @@
 // Tries the services on the cases that its arguments are, each the name of a service and its inputs, and prints of each the case as it is
 // and what the service answers. `tests/make_cases.py` makes the cases. Each service has a function and a branch of `tried` in a module
-// here, and an arm in `rust/second/src/bin/expected.rs`, which says what must be printed. No `tried` is inlined, so that the stack holds the
-// buffers of one alone.
+// here, and an arm in `rust/second/src/bin/expected.rs`, which says what must be printed. No `tried` is inlined, so that the stack holds
+// the buffers of one alone.
 #![tactic(auto)]
 
 ghost use Rattle.std.specs.Prelude.{◌≤◌, IfSome, length};

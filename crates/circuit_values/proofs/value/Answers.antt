@@ -1,3 +1,4 @@
+-- The check finds this alone: it stands here so that an edit shows its fact.
 use Prim.Native.Nat.{◌/◌, ◌%◌}
 use mathlib.Core.Path.{sym, ap}
 use mathlib.Core.Bool.{false, not}

@@ -1,3 +1,4 @@
+-- The check finds this alone: it stands here so that an edit shows its fact.
 use Rattle.std.proofs.Common.{[]}
 use Rattle.tables.specs.Bit.{bit_at}
 use Rattle.writing.proofs.Texts.{wrote_both, wrote_is}
